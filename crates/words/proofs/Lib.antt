@@ -1,0 +1,3 @@
+pub mod Cyclic
+pub mod Digits
+pub mod Numbers
