@@ -4,17 +4,23 @@ use mathlib.Core.Path.{_≡_, refl}
 use mathlib.Core.List.{List}
 use Prim.Native.Nat.{ℕ, zero, suc, _+_, _*_, _<_}
 use native.Mathlib.Omega.{arith}
+use lib.ListN.{length}
 use Rattle.tables.specs.declared.Line.the-variants.{Left, Right}
 use Rattle.lines.specs.Steps.{Pair, pairSteps, exchangeOf}
 use Rattle.lines.specs.Places.{placed, runOf, namedPair, placedPair, walkOf, exchangedAt}
 use Rattle.lines.specs.declared.Both.{Both}
-use Rattle.lines.proofs.Places.{named-placed}
+use Rattle.lines.proofs.Places.{named-placed, placed-named}
 use Rattle.lines.proofs.Runs.{run-add}
 
 -- from the names to the places and back
 pub pair-named : (j : ℕ) (q : Pair) → namedPair j (placedPair j q) ≡ q
 unfolding namedPair placedPair
 pair-named j q = rw (named-placed j (q .left), named-placed j (q .right))
+
+-- from the places to the names and back, where each line has five
+pub pair-placed : (j : ℕ) (p : Both) → length (p .left) ≡ 5 → length (p .right) ≡ 5 → placedPair j (namedPair j p) ≡ p
+unfolding namedPair placedPair
+pair-placed j p hl hr = rw (placed-named j (p .left) hl, placed-named j (p .right) hr)
 
 -- a walk is a run of each line
 pub walk-runs : (x : List ℕ) (j n : ℕ) (p : Both)

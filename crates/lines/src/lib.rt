@@ -32,57 +32,61 @@ fn step(v: [u32; 5], j: usize, f: usize, x: u32, k: u32, s: u32) -> [u32; 5]
     g
 }
 
-// Step j of the line l, with the line's order, shifts and constants.
+// Step j of the line l, whose message words, shifts and constants are r, s and k.
 fn line_step(
     l: Line,
     x: &[u32; 16],
-    order: &[usize; 80],
-    shift: &[u32; 80],
+    r: &[usize; 80],
+    s: &[u32; 80],
     k: &[u32; 5],
     j: usize,
     v: [u32; 5],
 ) -> [u32; 5]
     requires { ⌜ j < 80 ⌝ }
-    requires { ⌜ Tables l (now order) (now shift) (now k) ⌝ }
-    ensures { λ r. ⌜ r ≡ runOf l (now (x .entry)) j 1 v ⌝ }
+    requires { ⌜ Tables l (now r) (now s) (now k) ⌝ }
+    ensures { λ y. ⌜ y ≡ runOf l (now (x .entry)) j 1 v ⌝ }
 {
     let n = j / 16;
-    let r = order[j];
-    let s = shift[j];
+    let i = r[j];
+    let amount = s[j];
     let f = tables::function(l, n);
     let c = tables::constant(l, k, n);
-    step(v, j, f, x[r], c, s)
+    step(v, j, f, x[i], c, amount)
 }
 
-// The steps from .. to of both lines, side by side, so that the processor overlaps them.
+// The steps from .. to of both lines, side by side, so that the processor overlaps them. The tables are named as in the paper, with 2 for
+// its prime: r, s and k are the left line's, and r2, s2 and k2 the right line's.
 pub fn walk(
     p: Both,
     x: &[u32; 16],
-    left_order: &[usize; 80],
-    left_shift: &[u32; 80],
-    left_k: &[u32; 5],
-    right_order: &[usize; 80],
-    right_shift: &[u32; 80],
-    right_k: &[u32; 5],
+    r: &[usize; 80],
+    s: &[u32; 80],
+    k: &[u32; 5],
+    r2: &[usize; 80],
+    s2: &[u32; 80],
+    k2: &[u32; 5],
     from: usize,
     to: usize,
 ) -> Both
     requires { ⌜ (from ≤ to) × (to ≤ 80) ⌝ }
-    requires { ⌜ Tables Left (now «left_order») (now «left_shift») (now «left_k») ⌝ }
-    requires { ⌜ Tables Right (now «right_order») (now «right_shift») (now «right_k») ⌝ }
-    ensures { λ r. ⌜ r ≡ walkOf (now (x .entry)) from (to - from) p ⌝ }
+    requires { ⌜ Tables Left (now r) (now s) (now k) ⌝ }
+    requires { ⌜ Tables Right (now r2) (now s2) (now k2) ⌝ }
+    ensures { λ q. ⌜ q ≡ walkOf (now (x .entry)) from (to - from) p ⌝ }
 {
-    let mut l = p.left;
-    let mut r = p.right;
+    let mut left = p.left;
+    let mut right = p.right;
     let mut j = from;
     while j < to {
-        let y = line_step(Line::Left, x, left_order, left_shift, left_k, j, l);
-        let z = line_step(Line::Right, x, right_order, right_shift, right_k, j, r);
-        l = y;
-        r = z;
+        let y = line_step(Line::Left, x, r, s, k, j, left);
+        let z = line_step(Line::Right, x, r2, s2, k2, j, right);
+        left = y;
+        right = z;
         j += 1;
     }
-    Both { left: l, right: r }
+    Both {
+        left: left,
+        right: right,
+    }
 }
 
 // Place i exchanged between the lines.

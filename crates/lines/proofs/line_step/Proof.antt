@@ -11,17 +11,17 @@ use borrow.Author.Needs.{needs}
 use Rattle.lines.proofs.line_step.Statement.{statement}
 use Rattle.lines.proofs.line_step.Tie as tie
 
-mul-r : tie.Need-mul-r
-mul-r c = search needs
+mul-i : tie.Need-mul-i
+mul-i c = search needs
 
-element-copy-out-r : tie.Need-element-copy-out-r
-element-copy-out-r c = search needs
+element-copy-out-i : tie.Need-element-copy-out-i
+element-copy-out-i c = search needs
 
-mul-s : tie.Need-mul-s
-mul-s c = search needs
+mul-amount : tie.Need-mul-amount
+mul-amount c = search needs
 
-element-copy-out-s : tie.Need-element-copy-out-s
-element-copy-out-s c = search needs
+element-copy-out-amount : tie.Need-element-copy-out-amount
+element-copy-out-amount c = search needs
 
 function-requires : tie.Need-function-requires
 function-requires c κs = search needs
@@ -48,7 +48,7 @@ returns : tie.Need-returns
 returns c =
     let s = c .before .before .before .before .before .before in
     let x = now (s .args .x) in
-    let r : getD (now (s .args .order)) (s .args .j) 0 ≡ orderOf (s .args .l) (s .args .j) = s .pre .1 .order .at (s .args .j) (s .pre .0) .0 in
+    let r : getD (now (s .args .r)) (s .args .j) 0 ≡ orderOf (s .args .l) (s .args .j) = s .pre .1 .order .at (s .args .j) (s .pre .0) .0 in
     rw (c .step .ensures)
     (one (s .args .l) x (s .args .j) _ _ _ _ (s .args .v)
     (c .before .before .before .function .ensures .0)
@@ -60,10 +60,10 @@ pub line-step-spec : {M : Type 1} → statement M
 line-step-spec =
     tie.close
     (tie.spec
-    mul-r
-    element-copy-out-r
-    mul-s
-    element-copy-out-s
+    mul-i
+    element-copy-out-i
+    mul-amount
+    element-copy-out-amount
     function-requires
     constant-requires
     mul-step

@@ -12,11 +12,11 @@ use Rattle.lines.proofs.walk.Statement.{statement}
 use Rattle.lines.proofs.walk.Tie as tie
 
 abbrev Inv-loop : tie.InvT-loop
-Inv-loop x left-order left-shift left-k right-order right-shift right-k from to l₀ r₀ j₀ l r j =
-    (from ≤ j) × ((j ≤ to) × ((l ≡ runOf Left x from (j - from) l₀) × (r ≡ runOf Right x from (j - from) r₀)))
+Inv-loop x r s k r2 s2 k2 from to left₀ right₀ j₀ left right j =
+    (from ≤ j) × ((j ≤ to) × ((left ≡ runOf Left x from (j - from) left₀) × (right ≡ runOf Right x from (j - from) right₀)))
 
 abbrev μ-loop : tie.MeasureT-loop
-μ-loop x left-order left-shift left-k right-order right-shift right-k from to l₀ r₀ j₀ l r j = to - j
+μ-loop x r s k r2 s2 k2 from to left₀ right₀ j₀ left right j = to - j
 
 loop-holds : tie.Need-loop-holds Inv-loop μ-loop
 loop-holds c = let s = c .before .before in

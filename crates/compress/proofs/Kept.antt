@@ -1,0 +1,37 @@
+-- What every compression keeps: there are ten words, each below 2^32, and those that the width doesn't use are zero.
+-- Assumes nothing.
+use mathlib.Core.Path.{_≡_, refl}
+use mathlib.Core.List.{List}
+use Prim.Native.Nat.{ℕ, zero, suc, _-_, _*_, _^_}
+use native.Mathlib.Omega.{arith}
+use lib.ListN.{length, take, drop, replicate}
+use Rattle.words.specs.Bytes.{wordsOf, Below}
+use Rattle.compress.specs.Block.{usedOf, combineOf, compressOf, blocksOf}
+use Rattle.compress.specs.declared.Width.{Width}
+use Rattle.compress.specs.declared.Width.the-variants.{W160, W320}
+
+-- h has as many words as a state has, they are words, and what the width doesn't use is zero
+pub record Chaining (w : Width) (h : List ℕ) : Type 0 where
+  pub long : length h ≡ 10
+  pub below : Below (2 ^ 32) h
+  pub spare : drop (usedOf w) h ≡ replicate (10 - usedOf w) 0
+
+pub compress-chaining : (w : Width) (h x : List ℕ) → Chaining w (compressOf w h x)
+unfolding compressOf combineOf
+compress-chaining W160 h x =
+    record {
+      long = refl;
+      below = (omega arith, (omega arith, (omega arith, (omega arith, (omega arith, (omega arith, (omega arith, (omega arith, (omega arith, (omega arith, tt))))))))));
+      spare = refl;
+    }
+compress-chaining W320 h x =
+    record {
+      long = refl;
+      below = (omega arith, (omega arith, (omega arith, (omega arith, (omega arith, (omega arith, (omega arith, (omega arith, (omega arith, (omega arith, tt))))))))));
+      spare = refl;
+    }
+
+pub blocks-chaining : (w : Width) (h s : List ℕ) (n : ℕ) → Chaining w h → Chaining w (blocksOf w h s n)
+unfolding blocksOf
+blocks-chaining w h s zero k = k
+blocks-chaining w h s (suc n) k = compress-chaining w (blocksOf w h s n) (wordsOf 16 (take 64 (drop (64 * n) s)))

@@ -1,0 +1,3 @@
+pub mod Ten
+pub mod Engine
+pub mod Kept
