@@ -1,5 +1,6 @@
 // What width 160 has of its own.
 ghost use mathlib.Core.Path.{_≡_};
+ghost use Rattle.words.specs.Words.{addOf};
 ghost use Rattle.lines.specs.Places.{namedPair, placedPair};
 ghost use Rattle.compress.specs.Block.{startOf, combineOf};
 ghost use Rattle.compress.specs.declared.Width.the-variants.{W160};
@@ -26,22 +27,23 @@ pub fn start(h: [u32; 10]) -> Both
     Both { left: v, right: v }
 }
 
-// The new words, all from the old h.
+fn sum(x: u32, y: u32, z: u32) -> u32
+    ensures { λ r. ⌜ r ≡ addOf (addOf x y) z ⌝ }
+{
+    words::add(words::add(x, y), z)
+}
+
+// The new words, all from the old h: new0 is made of the old h1, as the paper's T is.
 pub fn combine(h: [u32; 10], p: Both) -> [u32; 10]
     ensures { λ r. ⌜ r ≡ combineOf W160 h (namedPair 80 p) ⌝ }
 {
     let l = p.left;
     let r = p.right;
-    [
-        words::add(words::add(h[1], l[2]), r[3]),
-        words::add(words::add(h[2], l[3]), r[4]),
-        words::add(words::add(h[3], l[4]), r[0]),
-        words::add(words::add(h[4], l[0]), r[1]),
-        words::add(words::add(h[0], l[1]), r[2]),
-        0,
-        0,
-        0,
-        0,
-        0,
-    ]
+    let h1 = h[1];
+    let new1 = sum(h[2], l[3], r[4]);
+    let new2 = sum(h[3], l[4], r[0]);
+    let new3 = sum(h[4], l[0], r[1]);
+    let new4 = sum(h[0], l[1], r[2]);
+    let new0 = sum(h1, l[2], r[3]);
+    [new0, new1, new2, new3, new4, 0, 0, 0, 0, 0]
 }

@@ -6,124 +6,99 @@ use borrow.Author.Needs.{needs}
 use Rattle.compress.proofs.c160.combine.Statement.{statement}
 use Rattle.compress.proofs.c160.combine.Tie as tie
 
-array-read-add : tie.Need-array-read-add
-array-read-add c = search needs
+array-read-h1 : tie.Need-array-read-h1
+array-read-h1 c = search needs
 
-array-read-add-2 : tie.Need-array-read-add-2
-array-read-add-2 c = search needs
+array-read-sum : tie.Need-array-read-sum
+array-read-sum c = search needs
 
-add-requires : tie.Need-add-requires
-add-requires c κs = search needs
+array-read-sum-2 : tie.Need-array-read-sum-2
+array-read-sum-2 c = search needs
 
-array-read-add-3 : tie.Need-array-read-add-3
-array-read-add-3 c = search needs
+array-read-sum-3 : tie.Need-array-read-sum-3
+array-read-sum-3 c = search needs
 
-add-requires-2 : tie.Need-add-requires-2
-add-requires-2 c κs = search needs
+sum-requires : tie.Need-sum-requires
+sum-requires c κs = search needs
 
-array-read-add-4 : tie.Need-array-read-add-4
-array-read-add-4 c = search needs
+array-read-sum-4 : tie.Need-array-read-sum-4
+array-read-sum-4 c = search needs
 
-array-read-add-5 : tie.Need-array-read-add-5
-array-read-add-5 c = search needs
+array-read-sum-5 : tie.Need-array-read-sum-5
+array-read-sum-5 c = search needs
 
-add-requires-3 : tie.Need-add-requires-3
-add-requires-3 c κs = search needs
+array-read-sum-6 : tie.Need-array-read-sum-6
+array-read-sum-6 c = search needs
 
-array-read-add-6 : tie.Need-array-read-add-6
-array-read-add-6 c = search needs
+sum-requires-2 : tie.Need-sum-requires-2
+sum-requires-2 c κs = search needs
 
-add-requires-4 : tie.Need-add-requires-4
-add-requires-4 c κs = search needs
+array-read-sum-7 : tie.Need-array-read-sum-7
+array-read-sum-7 c = search needs
 
-array-read-add-7 : tie.Need-array-read-add-7
-array-read-add-7 c = search needs
+array-read-sum-8 : tie.Need-array-read-sum-8
+array-read-sum-8 c = search needs
 
-array-read-add-8 : tie.Need-array-read-add-8
-array-read-add-8 c = search needs
+array-read-sum-9 : tie.Need-array-read-sum-9
+array-read-sum-9 c = search needs
 
-add-requires-5 : tie.Need-add-requires-5
-add-requires-5 c κs = search needs
+sum-requires-3 : tie.Need-sum-requires-3
+sum-requires-3 c κs = search needs
 
-array-read-add-9 : tie.Need-array-read-add-9
-array-read-add-9 c = search needs
+array-read-sum-10 : tie.Need-array-read-sum-10
+array-read-sum-10 c = search needs
 
-add-requires-6 : tie.Need-add-requires-6
-add-requires-6 c κs = search needs
+array-read-sum-11 : tie.Need-array-read-sum-11
+array-read-sum-11 c = search needs
 
-array-read-add-10 : tie.Need-array-read-add-10
-array-read-add-10 c = search needs
+array-read-sum-12 : tie.Need-array-read-sum-12
+array-read-sum-12 c = search needs
 
-array-read-add-11 : tie.Need-array-read-add-11
-array-read-add-11 c = search needs
+sum-requires-4 : tie.Need-sum-requires-4
+sum-requires-4 c κs = search needs
 
-add-requires-7 : tie.Need-add-requires-7
-add-requires-7 c κs = search needs
+array-read-sum-13 : tie.Need-array-read-sum-13
+array-read-sum-13 c = search needs
 
-array-read-add-12 : tie.Need-array-read-add-12
-array-read-add-12 c = search needs
+array-read-sum-14 : tie.Need-array-read-sum-14
+array-read-sum-14 c = search needs
 
-add-requires-8 : tie.Need-add-requires-8
-add-requires-8 c κs = search needs
-
-array-read-add-13 : tie.Need-array-read-add-13
-array-read-add-13 c = search needs
-
-array-read-add-14 : tie.Need-array-read-add-14
-array-read-add-14 c = search needs
-
-add-requires-9 : tie.Need-add-requires-9
-add-requires-9 c κs = search needs
-
-array-read-add-15 : tie.Need-array-read-add-15
-array-read-add-15 c = search needs
-
-add-requires-10 : tie.Need-add-requires-10
-add-requires-10 c κs = search needs
+sum-requires-5 : tie.Need-sum-requires-5
+sum-requires-5 c κs = search needs
 
 returns : tie.Need-returns
 unfolding combineOf namedPair named
 returns c =
     rw (
-      c .add10 .ensures,
-      c .before .add9 .ensures,
-      c .before .before .add8 .ensures,
-      c .before .before .before .add7 .ensures,
-      c .before .before .before .before .add6 .ensures,
-      c .before .before .before .before .before .add5 .ensures,
-      c .before .before .before .before .before .before .add4 .ensures,
-      c .before .before .before .before .before .before .before .add3 .ensures,
-      c .before .before .before .before .before .before .before .before .add2 .ensures,
-      c .before .before .before .before .before .before .before .before .before .add .ensures,
+      c .sum5 .ensures,
+      c .before .sum4 .ensures,
+      c .before .before .sum3 .ensures,
+      c .before .before .before .sum2 .ensures,
+      c .before .before .before .before .sum .ensures,
     )
 
 pub combine-spec : {M : Type 1} → statement M
 combine-spec =
     tie.close
     (tie.spec
-    array-read-add
-    array-read-add-2
-    add-requires
-    array-read-add-3
-    add-requires-2
-    array-read-add-4
-    array-read-add-5
-    add-requires-3
-    array-read-add-6
-    add-requires-4
-    array-read-add-7
-    array-read-add-8
-    add-requires-5
-    array-read-add-9
-    add-requires-6
-    array-read-add-10
-    array-read-add-11
-    add-requires-7
-    array-read-add-12
-    add-requires-8
-    array-read-add-13
-    array-read-add-14
-    add-requires-9
-    array-read-add-15
-    add-requires-10
+    array-read-h1
+    array-read-sum
+    array-read-sum-2
+    array-read-sum-3
+    sum-requires
+    array-read-sum-4
+    array-read-sum-5
+    array-read-sum-6
+    sum-requires-2
+    array-read-sum-7
+    array-read-sum-8
+    array-read-sum-9
+    sum-requires-3
+    array-read-sum-10
+    array-read-sum-11
+    array-read-sum-12
+    sum-requires-4
+    array-read-sum-13
+    array-read-sum-14
+    sum-requires-5
     returns)
