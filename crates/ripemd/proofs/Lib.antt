@@ -1,0 +1,4 @@
+pub mod Zeros
+pub mod Well
+pub mod Pending
+pub mod Cuts

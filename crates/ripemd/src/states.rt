@@ -1,0 +1,91 @@
+// Fresh states, and what is wrong with a state.
+ghost use mathlib.Core.Path.{_≡_};
+ghost use Prim.Native.Nat.{_+_, _*_, _^_, _≤_, _<_};
+ghost use lib.ListN.{length, drop};
+ghost use Rattle.ripemd.specs.State.{zeros, faultOf, freshOf};
+use crate::BlockCount;
+use crate::ByteCount;
+use crate::State;
+use compress::Width;
+
+pub fn fresh(w: Width) -> State
+    ensures { λ r. ⌜ r ≡ freshOf w ⌝ }
+{
+    let words = compress::initial(w);
+    State {
+        width: w,
+        words: words,
+        count: BlockCount(0),
+        fill: 0,
+        tail: [0u8; 64],
+    }
+}
+
+// The fresh state of the width of s, whatever else s holds.
+pub fn reset(s: State) -> State
+    ensures { λ r. ⌜ r ≡ freshOf (s .width) ⌝ }
+{
+    let w = s.width;
+    fresh(w)
+}
+
+fn zero_bytes(a: &[u8], from: usize) -> bool
+    requires { ⌜ from ≤ length (now a) ⌝ }
+    ensures { λ r. ⌜ r ≡ zeros (drop from (now (a .entry))) ⌝ }
+{
+    let mut i = from;
+    while i < a.len() {
+        if a[i] != 0 {
+            return false;
+        }
+        i += 1;
+    }
+    true
+}
+
+fn zero_words(a: &[u32], from: usize) -> bool
+    requires { ⌜ from ≤ length (now a) ⌝ }
+    ensures { λ r. ⌜ r ≡ zeros (drop from (now (a .entry))) ⌝ }
+{
+    let mut i = from;
+    while i < a.len() {
+        if a[i] != 0 {
+            return false;
+        }
+        i += 1;
+    }
+    true
+}
+
+// 0 where s is well formed, else 6.
+pub fn fault(s: State) -> u32
+    ensures { λ r. ⌜ r ≡ faultOf s ⌝ }
+{
+    let fill = s.fill;
+    if 64 <= fill {
+        return 6;
+    }
+    let count = s.count;
+    if 0x0080_0000_0000_0000 <= count.0 {
+        return 6;
+    }
+    let tail = s.tail;
+    if !zero_bytes(&tail, fill) {
+        return 6;
+    }
+    let width = s.width;
+    let words = s.words;
+    let used = compress::used(width);
+    if !zero_words(&words, used) {
+        return 6;
+    }
+    0
+}
+
+// Bytes taken so far: 64 for each block, and the fill.
+pub(crate) fn bytes_taken(count: BlockCount, fill: usize) -> ByteCount
+    requires { ⌜ (count .0 < 2 ^ 55) × (fill < 64) ⌝ }
+    ensures { λ r. ⌜ r .0 ≡ 64 * count .0 + fill ⌝ }
+{
+    ByteCount(64 * count.0 + fill as u64)
+}
