@@ -2,3 +2,8 @@ pub mod Zeros
 pub mod Well
 pub mod Pending
 pub mod Cuts
+pub mod Ends
+pub mod Outcomes
+pub mod Recorded
+pub mod Kept
+pub mod Calls

@@ -122,7 +122,7 @@ pub fn feed(s: State, piece: &[u8]) -> Fed
     let count = s.count;
     let fill = s.fill;
     let taken = states::bytes_taken(count, fill);
-    let room = 0x2000_0000_0000_0000 - taken.0;
+    let room = states::room(taken);
     if room <= piece.len() as u64 {
         return Fed {
             number: 1,

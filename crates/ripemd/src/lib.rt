@@ -1,12 +1,20 @@
 // The library: a hash state that is fed, finished, exported and imported. Each call gives the scope's number, 0 where it is done.
 mod feeding;
+mod finishing;
+mod padding;
+mod records;
 mod states;
+mod whole;
 
 pub use compress::Width;
 pub use feeding::feed;
+pub use finishing::finish;
+pub use records::export;
+pub use records::import;
 pub use states::fault;
 pub use states::fresh;
 pub use states::reset;
+pub use whole::one_shot;
 
 // A number of 64-byte blocks.
 pub struct BlockCount(pub u64);
@@ -33,4 +41,10 @@ pub struct Fed {
 pub struct Imported {
     pub number: u32,
     pub state: State,
+}
+
+// The padded end of a message: one block or two.
+struct Padded {
+    bytes: [u8; 128],
+    blocks: usize,
 }

@@ -1,7 +1,8 @@
 // Fresh states, and what is wrong with a state.
 ghost use mathlib.Core.Path.{_≡_};
-ghost use Prim.Native.Nat.{_+_, _*_, _^_, _≤_, _<_};
+ghost use Prim.Native.Nat.{_+_, _-_, _*_, _^_, _≤_, _<_};
 ghost use lib.ListN.{length, drop};
+ghost use lib.Dec.{leb};
 ghost use Rattle.ripemd.specs.State.{zeros, faultOf, freshOf};
 use crate::BlockCount;
 use crate::ByteCount;
@@ -57,6 +58,13 @@ fn zero_words(a: &[u32], from: usize) -> bool
     true
 }
 
+// Whether a count is 2^55 or more, so that its bytes are 2^61 or more.
+pub(crate) fn too_many(count: BlockCount) -> bool
+    ensures { λ r. ⌜ r ≡ leb (2 ^ 55) (count .0) ⌝ }
+{
+    0x0080_0000_0000_0000 <= count.0
+}
+
 // 0 where s is well formed, else 6.
 pub fn fault(s: State) -> u32
     ensures { λ r. ⌜ r ≡ faultOf s ⌝ }
@@ -66,7 +74,7 @@ pub fn fault(s: State) -> u32
         return 6;
     }
     let count = s.count;
-    if 0x0080_0000_0000_0000 <= count.0 {
+    if too_many(count) {
         return 6;
     }
     let tail = s.tail;
@@ -88,4 +96,12 @@ pub(crate) fn bytes_taken(count: BlockCount, fill: usize) -> ByteCount
     ensures { λ r. ⌜ r .0 ≡ 64 * count .0 + fill ⌝ }
 {
     ByteCount(64 * count.0 + fill as u64)
+}
+
+// How many bytes more make 2^61.
+pub(crate) fn room(taken: ByteCount) -> u64
+    requires { ⌜ taken .0 < 2 ^ 61 ⌝ }
+    ensures { λ r. ⌜ r ≡ 2 ^ 61 - taken .0 ⌝ }
+{
+    0x2000_0000_0000_0000 - taken.0
 }

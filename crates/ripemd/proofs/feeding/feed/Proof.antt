@@ -26,10 +26,10 @@ bytes-taken-requires c κs =
     let w = well (a .s) z in
     omega arith
 
-sub-room : tie.Need-sub-room
-sub-room c =
-    let a = c .before .before .before .before .before .before .args in
-    let z : faultOf (a .s) ≡ 0 = sym (c .before .before .before .before .fault .ensures) ∙ c .before .before .before .if1 .left in
+room-requires : tie.Need-room-requires
+room-requires c κs =
+    let a = c .before .before .before .before .before .args in
+    let z : faultOf (a .s) ≡ 0 = sym (c .before .before .before .fault .ensures) ∙ c .before .before .if1 .left in
     let w = well (a .s) z in
     omega arith
 
@@ -39,14 +39,14 @@ returns-2 c =
     let a = c .before .before .before .before .before .before .before .args in
     let z : faultOf (a .s) ≡ 0 = sym (c .before .before .before .before .before .fault .ensures) ∙ c .before .before .before .before .if1 .left in
     let w = well (a .s) z in
-    simp (z, le-leb (2 ^ 61) (takenOf (a .s) + length (a .piece .now)) (omega arith))
+    simp (z, le-leb (2 ^ 61) (takenOf (a .s) + length (a .piece .now)) (omega (arith, c .before .room .ensures, c .before .before .bytes-taken .ensures)))
 
 take-in-requires : tie.Need-take-in-requires
 take-in-requires c κs =
     let a = c .before .before .before .before .before .before .before .args in
     let z : faultOf (a .s) ≡ 0 = sym (c .before .before .before .before .before .fault .ensures) ∙ c .before .before .before .before .if1 .left in
     let w = well (a .s) z in
-    (z, omega arith)
+    (z, omega (arith, c .before .room .ensures, c .before .before .bytes-taken .ensures))
 
 returns-3 : tie.Need-returns-3
 unfolding feedOf feedNumber
@@ -54,7 +54,7 @@ returns-3 c =
     let a = c .before .before .before .before .before .before .before .before .args in
     let z : faultOf (a .s) ≡ 0 = sym (c .before .before .before .before .before .before .fault .ensures) ∙ c .before .before .before .before .before .if1 .left in
     let w = well (a .s) z in
-    simp (z, lt-leb (2 ^ 61) (takenOf (a .s) + length (a .piece .now)) (omega arith), sym (c .take-in .ensures))
+    simp (z, lt-leb (2 ^ 61) (takenOf (a .s) + length (a .piece .now)) (omega (arith, c .before .before .room .ensures, c .before .before .before .bytes-taken .ensures)), sym (c .take-in .ensures))
 
 pub feed-spec : {M : Type 1} → statement M
 feed-spec =
@@ -63,7 +63,7 @@ feed-spec =
     fault-requires
     returns
     bytes-taken-requires
-    sub-room
+    room-requires
     returns-2
     take-in-requires
     returns-3)

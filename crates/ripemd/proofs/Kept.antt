@@ -1,0 +1,87 @@
+-- What every state that is reached keeps: it is well formed, its tail has 64 bytes and its words are chaining words of its width.
+-- Assumes nothing.
+use Prim.Native.Nat.{ℕ, _+_, _-_, _*_, _/_, _%_, _^_, _≤_, _<_}
+use mathlib.Core.Path.{_≡_, refl, ap, sym, _∙_}
+use mathlib.Core.List.{List, _++_}
+use mathlib.Core.Bool.{true}
+use native.Mathlib.Omega.{arith}
+use lib.Dec.{lit<}
+use lib.ListN.{length, drop, replicate, length-append, length-drop, length-replicate}
+use lib.Seq.{drop-at}
+use Rattle.compress.specs.Block.{usedOf, initialOf, blocksOf}
+use Rattle.compress.specs.declared.Width.{Width}
+use Rattle.compress.specs.declared.Width.the-variants.{W160, W320}
+use Rattle.compress.proofs.Kept.{Chaining, blocks-chaining}
+use Rattle.ripemd.specs.State.{zeros, takenOf, WellFormed, between, freshOf}
+use Rattle.ripemd.specs.Feed.{pending, wholeBlocks, asTail, fedState}
+use Rattle.ripemd.specs.declared.State.{State}
+use Rattle.ripemd.specs.declared.BlockCount.{BlockCount}
+use Rattle.ripemd.proofs.Zeros.{zeros-replicate}
+use Rattle.ripemd.proofs.Pending.{length-pending}
+
+pub record Sound (s : State) : Type 0 where
+  pub well : WellFormed s
+  pub tail : length (s .tail) ≡ 64
+  pub words : Chaining (s .width) (s .words)
+
+spare-zero : (w : Width) (h : List ℕ) → Chaining w h → zeros (drop (usedOf w) h) ≡ true
+spare-zero w h k = ap zeros (k .spare) ∙ zeros-replicate (10 - usedOf w)
+
+-- a state between two blocks
+pub between-sound : (w : Width) (h : List ℕ) (c : ℕ) → c < 2 ^ 55 → Chaining w h → Sound (between w h c)
+between-sound w h c l k =
+    record {
+      well = record { fill = lit< tt; count = l; tail = refl; spare = spare-zero w h k };
+      tail = refl;
+      words = k;
+    }
+
+initial-chaining : (w : Width) → Chaining w (initialOf w)
+initial-chaining W160 =
+    record {
+      long = refl;
+      below = (lit< tt, (lit< tt, (lit< tt, (lit< tt, (lit< tt, (lit< tt, (lit< tt, (lit< tt, (lit< tt, (lit< tt, tt))))))))));
+      spare = refl;
+    }
+initial-chaining W320 =
+    record {
+      long = refl;
+      below = (lit< tt, (lit< tt, (lit< tt, (lit< tt, (lit< tt, (lit< tt, (lit< tt, (lit< tt, (lit< tt, (lit< tt, tt))))))))));
+      spare = refl;
+    }
+
+pub fresh-sound : (w : Width) → Sound (freshOf w)
+fresh-sound w = between-sound w (initialOf w) 0 (lit< tt) (initial-chaining w)
+
+module _ (s : State) (p : List ℕ) (k : Sound s) where
+  abbrev rest : List ℕ
+  rest = drop (64 * wholeBlocks s p) (pending s p)
+
+  rest-long : length rest ≡ (s .fill + length p) % 64
+  rest-long =
+      let lp = length-pending (s .tail) p (s .fill) (omega (arith, k .tail, k .well .fill)) in
+      simp length-drop (omega (arith, lp))
+
+  fed-words : Chaining (s .width) (fedState s p .words)
+  unfolding fedState
+  fed-words = blocks-chaining (s .width) (s .words) (pending s p) (wholeBlocks s p) (k .words)
+
+  -- an accepted piece keeps all of it
+  pub fed-sound : takenOf s + length p < 2 ^ 61 → Sound (fedState s p)
+  unfolding fedState
+  fed-sound h =
+      record {
+        well = record {
+          fill = omega arith;
+          count = omega (arith, k .well .fill);
+          tail = ap zeros (drop-at rest (replicate (64 - length rest) 0) ((s .fill + length p) % 64) rest-long) ∙ zeros-replicate (64 - length rest);
+          spare = spare-zero (s .width) (blocksOf (s .width) (s .words) (pending s p) (wholeBlocks s p)) fed-words;
+        };
+        tail = simp (length-append, length-replicate) (omega (arith, rest-long));
+        words = fed-words;
+      }
+
+  -- and counts its bytes
+  pub fed-taken : takenOf (fedState s p) ≡ takenOf s + length p
+  unfolding fedState
+  fed-taken = omega arith
