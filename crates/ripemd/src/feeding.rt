@@ -108,7 +108,6 @@ fn take_in(s: State, piece: &[u8]) -> State
     r
 }
 
-// The sum with the piece's length could pass 2^64, so the length is held against what is left.
 pub fn feed(s: State, piece: &[u8]) -> Fed
     ensures { λ r. ⌜ r ≡ feedOf s (now (piece .entry)) ⌝ }
 {
@@ -122,8 +121,8 @@ pub fn feed(s: State, piece: &[u8]) -> Fed
     let count = s.count;
     let fill = s.fill;
     let taken = states::bytes_taken(count, fill);
-    let room = states::room(taken);
-    if room <= piece.len() as u64 {
+    let n = piece.len() as u64;
+    if states::too_long(taken, n) {
         return Fed {
             number: 1,
             state: s,

@@ -3,6 +3,7 @@ ghost use mathlib.Core.Path.{_≡_};
 ghost use lib.ListN.{length};
 ghost use Prim.Native.Nat.{_*_, _≤_};
 ghost use Rattle.compress.specs.Block.{usedOf};
+ghost use Rattle.ripemd.specs.State.{freshOf};
 ghost use Rattle.ripemd.specs.Record.{wordsIn, exportNumber, exportBytes, importOf};
 use crate::BlockCount;
 use crate::Imported;
@@ -48,24 +49,26 @@ fn read_words(w: Width, bytes: &[u8]) -> [u32; 10]
     h
 }
 
+fn refused(w: Width, number: u32) -> Imported
+    ensures { λ r. ⌜ (r .number ≡ number) × (r .state ≡ freshOf w) ⌝ }
+{
+    let s = states::fresh(w);
+    Imported {
+        number: number,
+        state: s,
+    }
+}
+
 pub fn import(w: Width, bytes: &[u8]) -> Imported
     ensures { λ r. ⌜ r ≡ importOf w (now (bytes .entry)) ⌝ }
 {
     let used = compress::used(w);
     if bytes.len() != 4 * used + 8 {
-        let s = states::fresh(w);
-        return Imported {
-            number: 4,
-            state: s,
-        };
+        return refused(w, 4);
     }
     let count = BlockCount(words::bytes::get(bytes, 4 * used, 8));
     if states::too_many(count) {
-        let s = states::fresh(w);
-        return Imported {
-            number: 5,
-            state: s,
-        };
+        return refused(w, 5);
     }
     let h = read_words(w, bytes);
     let s = State {

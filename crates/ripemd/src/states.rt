@@ -98,10 +98,10 @@ pub(crate) fn bytes_taken(count: BlockCount, fill: usize) -> ByteCount
     ByteCount(64 * count.0 + fill as u64)
 }
 
-// How many bytes more make 2^61.
-pub(crate) fn room(taken: ByteCount) -> u64
+// Whether n bytes more make 2^61 or more. The sum could pass 2^64, so n is held against what is left.
+pub(crate) fn too_long(taken: ByteCount, n: u64) -> bool
     requires { ⌜ taken .0 < 2 ^ 61 ⌝ }
-    ensures { λ r. ⌜ r ≡ 2 ^ 61 - taken .0 ⌝ }
+    ensures { λ r. ⌜ r ≡ leb (2 ^ 61 - taken .0) n ⌝ }
 {
-    0x2000_0000_0000_0000 - taken.0
+    0x2000_0000_0000_0000 - taken.0 <= n
 }

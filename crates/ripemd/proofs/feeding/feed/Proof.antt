@@ -1,10 +1,10 @@
 -- `ripemd::feeding::feed` meets its contract.
 -- Assumes nothing.
 use mathlib.Core.Path.{_≡_, sym, _∙_}
-use Prim.Native.Nat.{_+_, _^_}
+use Prim.Native.Nat.{_+_, _-_, _^_}
 use native.Mathlib.Omega.{arith}
 use lib.ListN.{length}
-use borrow.Author.Tests.{ne-eqb, le-leb, lt-leb}
+use borrow.Author.Tests.{ne-eqb, le-leb, lt-leb, leb-true, leb-false}
 use Rattle.ripemd.specs.State.{takenOf, faultOf}
 use Rattle.ripemd.specs.Feed.{feedNumber, feedOf}
 use Rattle.ripemd.proofs.Well.{well}
@@ -24,14 +24,14 @@ bytes-taken-requires c κs =
     let a = c .before .before .before .before .args in
     let z : faultOf (a .s) ≡ 0 = sym (c .before .before .fault .ensures) ∙ c .before .if1 .left in
     let w = well (a .s) z in
-    omega arith
+    (w .count, w .fill)
 
-room-requires : tie.Need-room-requires
-room-requires c κs =
+too-long-requires : tie.Need-too-long-requires
+too-long-requires c κs =
     let a = c .before .before .before .before .before .args in
     let z : faultOf (a .s) ≡ 0 = sym (c .before .before .before .fault .ensures) ∙ c .before .before .if1 .left in
     let w = well (a .s) z in
-    omega arith
+    omega (arith, w .count, w .fill, c .bytes-taken .ensures)
 
 returns-2 : tie.Need-returns-2
 unfolding feedOf feedNumber
@@ -39,14 +39,16 @@ returns-2 c =
     let a = c .before .before .before .before .before .before .before .args in
     let z : faultOf (a .s) ≡ 0 = sym (c .before .before .before .before .before .fault .ensures) ∙ c .before .before .before .before .if1 .left in
     let w = well (a .s) z in
-    simp (z, le-leb (2 ^ 61) (takenOf (a .s) + length (a .piece .now)) (omega (arith, c .before .room .ensures, c .before .before .bytes-taken .ensures)))
+    let l = leb-true (2 ^ 61 - c .before .before .bytes-taken .result .0) (length (a .piece .now)) (sym (c .before .too-long .ensures) ∙ c .if2 .taken) in
+    simp (z, le-leb (2 ^ 61) (takenOf (a .s) + length (a .piece .now)) (omega (arith, c .before .before .bytes-taken .ensures)))
 
 take-in-requires : tie.Need-take-in-requires
 take-in-requires c κs =
     let a = c .before .before .before .before .before .before .before .args in
     let z : faultOf (a .s) ≡ 0 = sym (c .before .before .before .before .before .fault .ensures) ∙ c .before .before .before .before .if1 .left in
     let w = well (a .s) z in
-    (z, omega (arith, c .before .room .ensures, c .before .before .bytes-taken .ensures))
+    let l = leb-false (2 ^ 61 - c .before .before .bytes-taken .result .0) (length (a .piece .now)) (sym (c .before .too-long .ensures) ∙ c .if2 .left) in
+    (z, omega (arith, c .before .before .bytes-taken .ensures))
 
 returns-3 : tie.Need-returns-3
 unfolding feedOf feedNumber
@@ -54,7 +56,8 @@ returns-3 c =
     let a = c .before .before .before .before .before .before .before .before .args in
     let z : faultOf (a .s) ≡ 0 = sym (c .before .before .before .before .before .before .fault .ensures) ∙ c .before .before .before .before .before .if1 .left in
     let w = well (a .s) z in
-    simp (z, lt-leb (2 ^ 61) (takenOf (a .s) + length (a .piece .now)) (omega (arith, c .before .before .room .ensures, c .before .before .before .bytes-taken .ensures)), sym (c .take-in .ensures))
+    let l = leb-false (2 ^ 61 - c .before .before .before .bytes-taken .result .0) (length (a .piece .now)) (sym (c .before .before .too-long .ensures) ∙ c .before .if2 .left) in
+    simp (z, lt-leb (2 ^ 61) (takenOf (a .s) + length (a .piece .now)) (omega (arith, c .before .before .before .bytes-taken .ensures)), sym (c .take-in .ensures))
 
 pub feed-spec : {M : Type 1} → statement M
 feed-spec =
@@ -63,7 +66,7 @@ feed-spec =
     fault-requires
     returns
     bytes-taken-requires
-    room-requires
+    too-long-requires
     returns-2
     take-in-requires
     returns-3)

@@ -8,10 +8,16 @@ use lib.ListN.{length, take, drop}
 use Rattle.words.specs.Bytes.{numberOf}
 use Rattle.compress.specs.Block.{usedOf}
 use Rattle.ripemd.specs.Record.{recordLength, countIn, importNumber, importOf}
+use Rattle.ripemd.specs.declared.State.{State}
+use Rattle.ripemd.specs.declared.Imported.{Imported}
 use Rattle.ripemd.proofs.Well.{used-le}
 use borrow.Author.Needs.{needs}
 use Rattle.ripemd.proofs.records.import.Statement.{statement}
 use Rattle.ripemd.proofs.records.import.Tie as tie
+
+-- an answer is its two fields
+two : {r : Imported} {n : ℕ} {s : State} → r .number ≡ n → r .state ≡ s → r ≡ record { number = n; state = s }
+two p q = rw (sym p, sym q)
 
 used-requires : tie.Need-used-requires
 used-requires c κs = search needs
@@ -22,14 +28,14 @@ mul-if1 c = omega (arith, used-le (c .before .before .args .w), c .used .ensures
 add-if1 : tie.Need-add-if1
 add-if1 c = omega (arith, used-le (c .before .before .args .w), c .used .ensures)
 
-fresh-requires : tie.Need-fresh-requires
-fresh-requires c κs = search needs
+refused-requires : tie.Need-refused-requires
+refused-requires c κs = search needs
 
 returns : tie.Need-returns
 unfolding importOf importNumber
 returns c =
     let a = c .before .before .before .before .args in
-    simp (c .fresh .ensures, ne-eqb (length (a .bytes .now)) (recordLength (a .w)) (λ q. c .before .if1 .taken (omega (arith, c .before .before .used .ensures))))
+    rw (two (c .refused .ensures .0) (c .refused .ensures .1), ne-eqb (length (a .bytes .now)) (recordLength (a .w)) (λ q. c .before .if1 .taken (omega (arith, c .before .before .used .ensures))))
 
 mul-get : tie.Need-mul-get
 mul-get c = omega (arith, used-le (c .before .before .before .args .w), c .before .used .ensures)
@@ -40,8 +46,8 @@ get-requires c κs = omega (arith, c .before .used .ensures, c .if1 .left)
 too-many-requires : tie.Need-too-many-requires
 too-many-requires c κs = search needs
 
-fresh-requires-2 : tie.Need-fresh-requires-2
-fresh-requires-2 c κs = search needs
+refused-requires-2 : tie.Need-refused-requires-2
+refused-requires-2 c κs = search needs
 
 returns-2 : tie.Need-returns-2
 unfolding importOf importNumber
@@ -50,8 +56,8 @@ returns-2 c =
     let n : countIn (a .w) (a .bytes .now) ≡ c .before .before .before .get .result =
     ap (λ (k : ℕ). numberOf (take 8 (drop (4 * k) (a .bytes .now)))) (sym (c .before .before .before .before .before .used .ensures)) ∙ sym (c .before .before .before .get .ensures .0)
     in
-    simp (
-      c .fresh2 .ensures,
+    rw (
+      two (c .refused2 .ensures .0) (c .refused2 .ensures .1),
       eq-eqb (length (a .bytes .now)) (recordLength (a .w)) (omega (arith, c .before .before .before .before .before .used .ensures, c .before .before .before .before .if1 .left)),
       n,
       sym (c .before .before .too-many .ensures) ∙ c .before .if2 .taken,
@@ -81,12 +87,12 @@ import-spec =
     used-requires
     mul-if1
     add-if1
-    fresh-requires
+    refused-requires
     returns
     mul-get
     get-requires
     too-many-requires
-    fresh-requires-2
+    refused-requires-2
     returns-2
     read-words-requires
     returns-3)
