@@ -3,10 +3,10 @@
 use Prim.Native.Nat.{ℕ, _+_, _*_, _^_, _≤_, _<_}
 use mathlib.Core.Path.{_≡_, refl, ap, sym, _∙_}
 use mathlib.Core.List.{List}
-use mathlib.Core.Bool.{Bool, true, false, cond}
+use mathlib.Core.Bool.{Bool, true, false, cond, not}
 use native.Mathlib.Omega.{arith}
-use borrow.Author.Tests.{eq-eqb, ne-eqb, le-leb, lt-leb, leb-false}
-use lib.Dec.{leb}
+use borrow.Author.Tests.{eq-eqb, ne-eqb, eqb-true, eqb-false, le-leb, lt-leb, leb-false}
+use lib.Dec.{eqb, leb}
 use lib.ListN.{length}
 use Rattle.compress.specs.Block.{initialOf}
 use Rattle.compress.specs.declared.Width.{Width}
@@ -89,3 +89,15 @@ module _ (w : Width) (m o : List ℕ) (l : length o ≡ digestLength w) where
               ∙ ap (λ (n : ℕ). digestFrom w (initialOf w) n m) e
               ∙ sym (accepted (oneShotNumber w (length m) (length o)) (published w m) o (sym shot-number ∙ z)),
         )
+
+-- an export that is done has nothing pending
+pub export-full : (s : State) (n : ℕ) → exportNumber s n ≡ 0 → s .fill ≡ 0
+unfolding exportNumber
+export-full s n = by-test (eqb (faultOf s) 0) (eqb n (recordLength (s .width))) (eqb (s .fill) 0) refl refl
+  where
+    by-test : (a b c : Bool) → eqb (faultOf s) 0 ≡ a → eqb (s .fill) 0 ≡ c → cond (not a) (faultOf s) (cond (not b) 3 (cond (not c) 2 0)) ≡ 0
+        → s .fill ≡ 0
+    by-test true true true e f h = eqb-true (s .fill) 0 f
+    by-test true true false e f h = absurd (omega arith)
+    by-test true false c e f h = absurd (omega arith)
+    by-test false b c e f h = absurd (eqb-false (faultOf s) 0 e h)

@@ -1,0 +1,253 @@
+-- DEMAND 3. Cut a message anywhere, empty pieces allowed; export and import wherever the bytes so far are a multiple of 64; calls that are
+-- refused in between, and finishing, count as not made. The digest is that of the whole message.
+-- Assumes nothing.
+use Prim.Native.Nat.{ℕ, suc, _+_, _*_, _/_, _%_, _^_, _<_, _≤_}
+use mathlib.Core.Path.{_≡_, refl, sym, ap, _∙_, subst}
+use mathlib.Core.List.{List, [], _∷_, _++_, append-nil, append-assoc}
+use mathlib.Core.Bool.{Bool, true, false}
+use native.Mathlib.Omega.{arith}
+use native.Mathlib.Nat.{add-zero}
+use borrow.Author.Tests.{leb-true, leb-false}
+use lib.Dec.{leb}
+use lib.ListN.{length, length-append}
+use lib.Seq.{paste, paste-zero}
+use Rattle.words.specs.Bytes.{Below}
+use Rattle.compress.specs.Block.{initialOf}
+use Rattle.compress.specs.declared.Width.{Width}
+use Rattle.ripemd.specs.State.{takenOf, faultOf, between, freshOf, moved}
+use Rattle.ripemd.specs.Feed.{fedState, feedOf}
+use Rattle.ripemd.specs.Digest.{digestLength, digestFrom, published, continued}
+use Rattle.ripemd.specs.Finish.{digestOf, finishNumber, finishBytes}
+use Rattle.ripemd.specs.Record.{recordLength, recordOf, wordsIn, countIn, exportNumber, exportBytes, importOf}
+use Rattle.ripemd.specs.declared.State.{State}
+use Rattle.ripemd.specs.declared.Fed.{Fed}
+use Rattle.ripemd.specs.declared.Imported.{Imported}
+use Rattle.ripemd.proofs.Well.{no-fault}
+use Rattle.ripemd.proofs.Pending.{fed-short}
+use Rattle.ripemd.proofs.Cuts.{fed-twice}
+use Rattle.ripemd.proofs.Outcomes.{accepted}
+use Rattle.ripemd.proofs.Ends.{digest-from}
+use Rattle.ripemd.proofs.Kept.{Sound, fresh-sound, fed-sound, fed-taken}
+use Rattle.ripemd.proofs.Calls.{feed-takes, feed-long, finish-right, export-right, export-part, export-full}
+use Rattle.ripemd.proofs.Resumed.{import-takes, import-sound, record-again, import-zero, import-export}
+use Rattle.demands.specs.Demand1.{feed-refused, export-refused}
+
+-- s is reached from s₀ with the message m: by pieces that feed takes, and by calls that add nothing to the message
+pub data Reach (s₀ : State) : List ℕ → State → Type 0 where
+  -- nothing was called
+  start : Reach s₀ [] s₀
+  -- a piece was taken
+  fed : (m p : List ℕ) (s : State) → Reach s₀ m s → feedOf s p .number ≡ 0 → Reach s₀ (m ++ p) (feedOf s p .state)
+  -- a piece was refused
+  not-fed : (m p : List ℕ) (s : State) → Reach s₀ m s → ¬ (feedOf s p .number ≡ 0) → Reach s₀ m (feedOf s p .state)
+  -- finish or export was called, whatever its number: no state comes back, so the caller goes on with its own
+  read : (m : List ℕ) (s : State) → Reach s₀ m s → Reach s₀ m s
+  -- an export that was done was imported at the same width
+  resumed : (m o : List ℕ) (s : State) → Reach s₀ m s → exportNumber s (length o) ≡ 0
+      → Reach s₀ m (importOf (s₀ .width) (exportBytes s o) .state)
+
+-- ---- one induction: what reaching says
+record Held (s₀ : State) (m : List ℕ) (s : State) : Type 0 where
+  sound : Sound s
+  room : takenOf s₀ + length m < 2 ^ 61
+  taken : takenOf s ≡ takenOf s₀ + length m
+  width : s .width ≡ s₀ .width
+  is : s ≡ fedState s₀ m
+
+fault-of : {s : State} → Sound s → faultOf s ≡ 0
+fault-of {s} k = no-fault s (k .well)
+
+-- a piece that is taken leaves the bytes below 2^61, and makes the state that feeding defines
+took : (s : State) (p : List ℕ) → Sound s → feedOf s p .number ≡ 0 → (takenOf s + length p < 2 ^ 61) × (feedOf s p .state ≡ fedState s p)
+took s p k z = by-test (leb (2 ^ 61) (takenOf s + length p)) refl
+  where
+    by-test : (b : Bool) → leb (2 ^ 61) (takenOf s + length p) ≡ b → (takenOf s + length p < 2 ^ 61) × (feedOf s p .state ≡ fedState s p)
+    by-test true e =
+        let l = leb-true (2 ^ 61) (takenOf s + length p) e in
+        absurd
+        (let q : _≡_ {A = ℕ} 1 0 = sym (ap (λ (f : Fed). f .number) (feed-long s (fault-of k) p l)) ∙ z in
+        omega arith)
+    by-test false e =
+        let l = leb-false (2 ^ 61) (takenOf s + length p) e in
+        (l, ap (λ (f : Fed). f .state) (feed-takes s (fault-of k) p l))
+
+-- feeding nothing changes nothing
+fed-none : (s : State) → Sound s → fedState s [] ≡ s
+fed-none s k =
+    let z : (s .fill + 0) / 64 ≡ 0 = omega (arith, k .well .fill) in
+    sym (fed-short s [] (k .tail) (k .well .fill) (k .well .tail) z)
+    ∙ ap (λ (f : ℕ). moved s (s .words) (s .count .0) f (paste (s .tail) (s .fill) [] 0)) (add-zero (s .fill))
+    ∙ ap (moved s (s .words) (s .count .0) (s .fill)) (sym (paste-zero (s .tail) (s .fill) []))
+
+fed-width : (s : State) (p : List ℕ) → fedState s p .width ≡ s .width
+unfolding fedState
+fed-width s p = refl
+
+-- an export of a sound state that is done, imported again
+again : (s : State) (o : List ℕ) → Sound s → exportNumber s (length o) ≡ 0 → importOf (s .width) (exportBytes s o) ≡ record { number = 0; state = s }
+unfolding exportBytes
+again s o k e =
+    ap (importOf (s .width)) (accepted (exportNumber s (length o)) (recordOf s) o e) ∙ import-export s k (export-full s (length o) e)
+
+module _ (s₀ : State) (k₀ : Sound s₀) where
+  held-fed : (m p : List ℕ) (s : State) → Held s₀ m s → takenOf s + length p < 2 ^ 61 → Held s₀ (m ++ p) (fedState s p)
+  held-fed m p s k h =
+      let la = length-append m p in
+      let t = fed-taken s p (k .sound) in
+      record {
+        sound = fed-sound s p (k .sound) h;
+        room = omega (arith, k .taken);
+        taken = omega (arith, k .taken);
+        width = fed-width s p ∙ k .width;
+        is = ap (λ (t : State). fedState t p) (k .is) ∙ fed-twice s₀ m p (k₀ .tail) (k₀ .well .fill);
+      }
+
+  held : {m : List ℕ} {s : State} → Reach s₀ m s → Held s₀ m s
+  held start =
+      record {
+        sound = k₀;
+        room = omega (arith, k₀ .well .fill, k₀ .well .count);
+        taken = omega arith;
+        width = refl;
+        is = sym (fed-none s₀ k₀);
+      }
+  held (fed m p s r z) = after (held r)
+    where
+      after : Held s₀ m s → Held s₀ (m ++ p) (feedOf s p .state)
+      after k = let t = took s p (k .sound) z in subst (Held s₀ (m ++ p)) (sym (t .1)) (held-fed m p s k (t .0))
+  held (not-fed m p s r n) = subst (Held s₀ m) (sym (feed-refused s p n)) (held r)
+  held (read m s r) = held r
+  held (resumed m o s r e) = after (held r)
+    where
+      after : Held s₀ m s → Held s₀ m (importOf (s₀ .width) (exportBytes s o) .state)
+      after k =
+          subst (Held s₀ m)
+          (sym (ap (λ (i : Imported). i .state) (ap (λ (w : Width). importOf w (exportBytes s o)) (sym (k .width)) ∙ again s o (k .sound) e)))
+          k
+
+-- ---- from words h that c blocks made: the theorems that both kinds of start are instances of
+module _ (w : Width) (h : List ℕ) (c : ℕ) (k₀ : Sound (between w h c)) {m : List ℕ} {s : State} (r : Reach (between w h c) m s) where
+  k : Held (between w h c) m s
+  k = held (between w h c) k₀ r
+
+  -- the state is well formed, and its count and fill follow from the bytes taken
+  pub chain-state : (faultOf s ≡ 0) × (s .count .0 ≡ c + length m / 64) × (s .fill ≡ length m % 64) × (64 * c + length m < 2 ^ 61)
+  chain-state =
+      let f = k .sound .well .fill in
+      let b = k .taken in
+      let z = k .room in
+      (fault-of (k .sound), omega arith, omega arith, omega arith)
+
+  -- finish is done, and gives the digest of the chain continued with the message
+  pub chain-finish : (o : List ℕ) → length o ≡ digestLength w → (finishNumber s (length o) ≡ 0) × (finishBytes s o ≡ continued w h c m)
+  unfolding finishBytes
+  chain-finish o l =
+      let e = finish-right s (fault-of (k .sound)) (length o) (l ∙ ap digestLength (sym (k .width))) in
+      (e, accepted (finishNumber s (length o)) (digestOf s) o e ∙ ap digestOf (k .is) ∙ digest-from w h c m)
+
+  -- a piece is taken exactly while the bytes stay below 2^61; else the number is 1, and the state is handed back
+  pub chain-feed : (p : List ℕ)
+      → (64 * c + length m + length p < 2 ^ 61 → feedOf s p .number ≡ 0)
+      × (2 ^ 61 ≤ 64 * c + length m + length p → feedOf s p ≡ record { number = 1; state = s })
+  chain-feed p =
+      let b = k .taken in (
+        λ l. ap (λ (f : Fed). f .number) (feed-takes s (fault-of (k .sound)) p (omega arith)),
+        λ l. feed-long s (fault-of (k .sound)) p (omega arith),
+      )
+
+  -- export is done exactly at a multiple of 64, and its import is the same state; else the number is 2, and no byte is written
+  pub chain-export : (o : List ℕ) → length o ≡ recordLength w
+      → (length m % 64 ≡ 0 → (exportNumber s (length o) ≡ 0) × (importOf w (exportBytes s o) ≡ record { number = 0; state = s }))
+      × (¬ (length m % 64 ≡ 0) → (exportNumber s (length o) ≡ 2) × (exportBytes s o ≡ o))
+  chain-export o l =
+      let f = chain-state .2 in
+      let lw : length o ≡ recordLength (s .width) = l ∙ ap recordLength (sym (k .width)) in (
+        λ z.
+            let e = export-right s (fault-of (k .sound)) (length o) lw (f ∙ z) in
+            (e, ap (λ (v : Width). importOf v (exportBytes s o)) (sym (k .width)) ∙ again s o (k .sound) e),
+        λ z.
+            let e = export-part s (fault-of (k .sound)) (length o) lw (λ q. z (sym f ∙ q)) in
+            (e, export-refused s o (λ q. omega (arith, sym e ∙ q))),
+      )
+
+-- ---- from a fresh state
+module _ (w : Width) {m : List ℕ} {s : State} (r : Reach (freshOf w) m s) where
+  pub reached-state : (faultOf s ≡ 0) × (s .count .0 ≡ length m / 64) × (s .fill ≡ length m % 64) × (length m < 2 ^ 61)
+  reached-state =
+      let t = chain-state w (initialOf w) 0 (fresh-sound w) r in
+      (t .0, omega (arith, t .1), t .2, omega (arith, t .3))
+
+  -- the published digest of the whole message
+  pub reached-finish : (o : List ℕ) → length o ≡ digestLength w → (finishNumber s (length o) ≡ 0) × (finishBytes s o ≡ published w m)
+  reached-finish o l =
+      let t = chain-finish w (initialOf w) 0 (fresh-sound w) r o l in
+      let z : 64 * 0 + length m ≡ length m = omega arith in
+      (t .0, t .1 ∙ ap (λ (n : ℕ). digestFrom w (initialOf w) n m) z)
+
+  pub reached-feed : (p : List ℕ)
+      → (length m + length p < 2 ^ 61 → feedOf s p .number ≡ 0)
+      × (2 ^ 61 ≤ length m + length p → feedOf s p ≡ record { number = 1; state = s })
+  reached-feed p =
+      let t = chain-feed w (initialOf w) 0 (fresh-sound w) r p in
+      (λ l. t .0 (omega arith), λ l. t .1 (omega arith))
+
+  pub reached-export : (o : List ℕ) → length o ≡ recordLength w
+      → (length m % 64 ≡ 0 → (exportNumber s (length o) ≡ 0) × (importOf w (exportBytes s o) ≡ record { number = 0; state = s }))
+      × (¬ (length m % 64 ≡ 0) → (exportNumber s (length o) ≡ 2) × (exportBytes s o ≡ o))
+  reached-export o l = chain-export w (initialOf w) 0 (fresh-sound w) r o l
+
+-- ---- any cut of a message under 2^61 bytes is reached, so that these theorems are not of nothing
+abbrev pub feedAll : State → List (List ℕ) → State
+feedAll s [] = s
+feedAll s (p ∷ ps) = feedAll (feedOf s p .state) ps
+
+abbrev pub joined : List (List ℕ) → List ℕ
+joined [] = []
+joined (p ∷ ps) = p ++ joined ps
+
+cut-reached : (w : Width) (ps : List (List ℕ)) (m : List ℕ) (s : State) → Reach (freshOf w) m s → length m + length (joined ps) < 2 ^ 61
+    → Reach (freshOf w) (m ++ joined ps) (feedAll s ps)
+cut-reached w [] m s r h = subst (λ (l : List ℕ). Reach (freshOf w) l s) (sym (append-nil m)) r
+cut-reached w (p ∷ ps) m s r h =
+    let la = length-append p (joined ps) in
+    let lm = length-append m p in
+    subst (λ (l : List ℕ). Reach (freshOf w) l (feedAll (feedOf s p .state) ps)) (append-assoc m p (joined ps))
+    (cut-reached w ps (m ++ p) (feedOf s p .state) (fed m p s r (reached-feed w r p .0 (omega arith))) (omega arith))
+
+-- cut anywhere, empty pieces allowed: the published digest of the whole
+pub cut-anywhere : (w : Width) (ps : List (List ℕ)) (o : List ℕ) → length (joined ps) < 2 ^ 61 → length o ≡ digestLength w
+    → (finishNumber (feedAll (freshOf w) ps) (length o) ≡ 0) × (finishBytes (feedAll (freshOf w) ps) o ≡ published w (joined ps))
+cut-anywhere w ps o h l = reached-finish w (cut-reached w ps [] (freshOf w) start (omega arith)) o l
+
+-- ---- from any record r, of bytes, that import accepts
+module _ (w : Width) (r : List ℕ) (b : Below 256 r) (ok : importOf w r .number ≡ 0) where
+  l : length r ≡ recordLength w
+  l = import-zero w r ok .0
+
+  c : countIn w r < 2 ^ 55
+  c = import-zero w r ok .1
+
+  is : importOf w r .state ≡ between w (wordsIn w r) (countIn w r)
+  is = ap (λ (i : Imported). i .state) (import-takes w r l c)
+
+  from-words : {m : List ℕ} {s : State} → Reach (importOf w r .state) m s → Reach (between w (wordsIn w r) (countIn w r)) m s
+  from-words {m} {s} q = subst (λ (t : State). Reach t m s) is q
+
+  -- it exports to its own bytes
+  pub record-same : (o : List ℕ) → length o ≡ recordLength w
+      → (exportNumber (importOf w r .state) (length o) ≡ 0) × (exportBytes (importOf w r .state) o ≡ r)
+  unfolding exportBytes
+  record-same o lo =
+      let t = between w (wordsIn w r) (countIn w r) in
+      let e = export-right t (fault-of (import-sound w r l c b)) (length o) lo refl in
+      rw is (e, accepted (exportNumber t (length o)) (recordOf t) o e ∙ record-again w r l c b)
+
+  -- feeding and finishing continue the chain from its words, with the length counted from its count
+  pub record-finish : {m : List ℕ} {s : State} → Reach (importOf w r .state) m s → (o : List ℕ) → length o ≡ digestLength w
+      → (finishNumber s (length o) ≡ 0) × (finishBytes s o ≡ continued w (wordsIn w r) (countIn w r) m)
+  record-finish q o lo = chain-finish w (wordsIn w r) (countIn w r) (import-sound w r l c b) (from-words q) o lo
+
+  pub record-feed : {m : List ℕ} {s : State} → Reach (importOf w r .state) m s → (p : List ℕ)
+      → (64 * countIn w r + length m + length p < 2 ^ 61 → feedOf s p .number ≡ 0)
+      × (2 ^ 61 ≤ 64 * countIn w r + length m + length p → feedOf s p ≡ record { number = 1; state = s })
+  record-feed q p = chain-feed w (wordsIn w r) (countIn w r) (import-sound w r l c b) (from-words q) p
