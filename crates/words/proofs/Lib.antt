@@ -1,3 +1,4 @@
 pub mod Cyclic
 pub mod Digits
 pub mod Numbers
+pub mod Copies

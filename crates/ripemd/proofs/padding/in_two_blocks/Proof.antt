@@ -1,14 +1,12 @@
 -- `ripemd::padding::in_two_blocks` meets its contract: j bytes are in place.
 -- Assumes nothing.
-use Prim.Native.Nat.{ℕ, _≤_, _<_, _-_}
-use mathlib.Core.Path.{_≡_, sym, _∙_, ap}
-use mathlib.Core.List.{List, _++_}
+use Prim.Native.Nat.{ℕ, _≤_, _-_}
+use mathlib.Core.Path.{_≡_, _∙_, ap}
 use native.Mathlib.Omega.{arith}
-use native.Mathlib.Nat.{zero-add}
-use native.Mathlib.Numerals.{add-one}
+use lib.ListN.{length, replicate}
+use lib.Seq.{paste, paste-zero}
+use Rattle.words.proofs.Copies.{copy-more, copied}
 use borrow.Author.Needs.{needs}
-use lib.ListN.{length, replicate, set, getD}
-use lib.Seq.{paste, paste-zero, paste-suc, take-all}
 use Rattle.ripemd.proofs.padding.in_two_blocks.Statement.{statement}
 use Rattle.ripemd.proofs.padding.in_two_blocks.Tie as tie
 
@@ -41,21 +39,14 @@ loop-again : tie.Need-loop-again Inv-loop μ-loop
 loop-again c =
     let l = c .before .loop in
     let t = c .before .before .args .t1 in
-    let h : l .j < length t = omega (arith, long (c .before .before)) in (
-      omega arith,
-      rw (l .inv .1, add-one)
-          (ap (λ (k : ℕ). set (paste (replicate 128 0) 0 t (l .j)) k (getD t (l .j) 0)) (sym (zero-add (l .j)))
-          ∙ paste-suc (replicate 128 0) 0 t (l .j) 0 (omega arith) h),
-    )
+    (omega arith, rw (l .inv .1) (copy-more (replicate 128 0) t (l .j) (omega arith) (omega (arith, long (c .before .before)))))
 
 returns : tie.Need-returns Inv-loop μ-loop
 returns c =
     let l = c .before .loop in
     let t = c .before .before .args .t1 in
     let e : l .j ≡ 64 = omega arith in
-    l .inv .1
-    ∙ ap (paste (replicate 128 0) 0 t) e
-    ∙ ap (λ (r : List ℕ). r ++ replicate 64 0) (take-all 64 t (omega (arith, long (c .before .before))))
+    l .inv .1 ∙ ap (paste (replicate 128 0) 0 t) e ∙ copied (replicate 128 0) t 64 (long (c .before .before))
 
 pub in-two-blocks-spec : {M : Type 1} → statement M
 in-two-blocks-spec =
