@@ -1,0 +1,3 @@
+pub mod Halves
+pub mod Numbers
+pub mod Place
