@@ -30,18 +30,18 @@ pub fn reset(s: State) -> State
     fresh(w)
 }
 
+// Every byte is looked at, so that the processor takes sixteen at a time.
 fn zero_bytes(a: &[u8], from: usize) -> bool
     requires { ⌜ from ≤ length (now a) ⌝ }
     ensures { λ r. ⌜ r ≡ zeros (drop from (now (a .entry))) ⌝ }
 {
+    let mut any = 0u8;
     let mut i = from;
     while i < a.len() {
-        if a[i] != 0 {
-            return false;
-        }
+        any = any | a[i];
         i += 1;
     }
-    true
+    any == 0
 }
 
 fn zero_words(a: &[u32], from: usize) -> bool
