@@ -1,0 +1,153 @@
+//! A call of the library and its answer, in the terms that both sides of the comparison share.
+
+use std::fmt;
+
+pub type Image = [u8; 128];
+
+#[derive(Clone, Copy, Debug, PartialEq)]
+pub enum Width {
+    W160,
+    W320,
+}
+
+pub const WIDTHS: [Width; 2] = [Width::W160, Width::W320];
+
+impl Width {
+    pub fn bits(self) -> usize {
+        match self {
+            Width::W160 => 160,
+            Width::W320 => 320,
+        }
+    }
+
+    /// How many of the ten words this width uses.
+    pub fn words(self) -> usize {
+        self.bits() / 32
+    }
+
+    pub fn digest(self) -> usize {
+        self.bits() / 8
+    }
+
+    pub fn record(self) -> usize {
+        self.digest() + 8
+    }
+}
+
+/// Bytes lent to be read.
+#[derive(Clone, Copy)]
+pub enum Input<'a> {
+    Bytes(&'a [u8]),
+    /// A length with no bytes behind it, for calls that must refuse it unread.
+    Claimed(usize),
+}
+
+impl<'a> Input<'a> {
+    pub fn length(self) -> usize {
+        match self {
+            Input::Bytes(bytes) => bytes.len(),
+            Input::Claimed(length) => length,
+        }
+    }
+
+    pub fn bytes(self) -> &'a [u8] {
+        match self {
+            Input::Bytes(bytes) => bytes,
+            Input::Claimed(_) => &[],
+        }
+    }
+}
+
+/// A public call. A lone `usize` is the length of the output that is lent.
+#[derive(Clone, Copy)]
+pub enum Call<'a> {
+    Fresh(Width),
+    Reset,
+    Feed(Input<'a>),
+    Finish(usize),
+    Export(usize),
+    Import(Width, &'a [u8]),
+    OneShot(Width, Input<'a>, usize),
+}
+
+impl<'a> Call<'a> {
+    pub fn input(&self) -> Input<'a> {
+        match *self {
+            Call::Feed(input) | Call::OneShot(_, input, _) => input,
+            Call::Import(_, record) => Input::Bytes(record),
+            _ => Input::Bytes(&[]),
+        }
+    }
+
+    /// The lent output as it is before the call, unlike any digest.
+    pub fn output(&self) -> Vec<u8> {
+        match *self {
+            Call::Finish(length) | Call::Export(length) | Call::OneShot(_, _, length) => (0..length).map(|at| 0xa5 ^ at as u8).collect(),
+            _ => Vec::new(),
+        }
+    }
+
+    pub fn lends_an_empty_slice(&self) -> bool {
+        match *self {
+            Call::Fresh(_) | Call::Reset => false,
+            Call::Feed(piece) => piece.length() == 0,
+            Call::Finish(length) | Call::Export(length) => length == 0,
+            Call::Import(_, record) => record.is_empty(),
+            Call::OneShot(_, message, length) => message.length() == 0 || length == 0,
+        }
+    }
+}
+
+/// All that is needed to repeat the call on the same state.
+impl fmt::Display for Call<'_> {
+    fn fmt(&self, f: &mut fmt::Formatter<'_>) -> fmt::Result {
+        match self {
+            Call::Fresh(width) => write!(f, "fresh{}", width.bits())?,
+            Call::Reset => write!(f, "reset")?,
+            Call::Feed(_) => write!(f, "feed")?,
+            Call::Finish(length) => write!(f, "finish into {length} bytes")?,
+            Call::Export(length) => write!(f, "export into {length} bytes")?,
+            Call::Import(width, _) => write!(f, "import{}", width.bits())?,
+            Call::OneShot(width, _, length) => write!(f, "one_shot{} into {length} bytes", width.bits())?,
+        }
+        match self.input() {
+            Input::Bytes([]) => Ok(()),
+            Input::Bytes(bytes) => {
+                // Long enough for every random piece; only the million letters are longer.
+                let shown = hex(&bytes[..bytes.len().min(3000)]);
+                write!(f, ", input of {} bytes {shown}", bytes.len())
+            }
+            Input::Claimed(length) => write!(f, ", input said to be of {length} bytes"),
+        }
+    }
+}
+
+/// All that a call may change, after it.
+#[derive(PartialEq)]
+pub struct Answer {
+    pub number: u32,
+    pub image: Image,
+    pub output: Vec<u8>,
+    /// Whether a byte beside the lent ones, or one lent to be read, was changed.
+    pub spilt: bool,
+}
+
+impl fmt::Display for Answer {
+    fn fmt(&self, f: &mut fmt::Formatter<'_>) -> fmt::Result {
+        let output = hex(&self.output);
+        write!(f, "number {} state {} output {output}", self.number, hex(&self.image))?;
+        if self.spilt {
+            write!(f, " and bytes changed that were not lent for it")?;
+        }
+        Ok(())
+    }
+}
+
+/// The message that the fixed cases are cut from.
+pub fn message(length: usize) -> Vec<u8> {
+    (0..length).map(|at| (at * 7 + 3) as u8).collect()
+}
+
+pub fn hex(bytes: &[u8]) -> String {
+    bytes.iter().map(|byte| format!("{byte:02x}")).collect()
+}

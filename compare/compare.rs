@@ -1,0 +1,56 @@
+//! Compares every call of the library with the model, group by group. Its only argument is the seed
+//! of the random sequences. The exit status says whether all was equal.
+//!
+//! compare/run puts the Rust crate's c160.rs and c320.rs beside a copy of these files.
+
+mod c160;
+mod c320;
+mod call;
+mod group;
+mod library;
+mod messages;
+mod model;
+mod published;
+mod random;
+mod refusals;
+
+use call::{Width, WIDTHS};
+use group::Group;
+use std::process::ExitCode;
+
+const GROUPS: [fn(Width) -> Group; 12] = [
+    messages::vectors,
+    messages::lengths,
+    messages::finish_and_go_on,
+    messages::restarts,
+    messages::mid_block,
+    refusals::high_counts,
+    refusals::last_bytes,
+    refusals::lengths_beyond_memory,
+    refusals::damaged_records,
+    refusals::wrong_lengths,
+    refusals::ill_formed,
+    refusals::flipped_images,
+];
+
+fn main() -> ExitCode {
+    let argument = std::env::args().nth(1).unwrap_or_default();
+    let Ok(seed) = argument.parse() else {
+        eprintln!("the seed is a number below 2^64, not '{argument}'");
+        return ExitCode::FAILURE;
+    };
+    println!("seed {seed}");
+    let mut equal = refusals::table().end();
+    for group in GROUPS {
+        for width in WIDTHS {
+            equal &= group(width).end();
+        }
+    }
+    equal &= random::sequences(seed).end();
+    println!("{}", if equal { "all equal" } else { "DIFFERENT" });
+    if equal {
+        ExitCode::SUCCESS
+    } else {
+        ExitCode::FAILURE
+    }
+}

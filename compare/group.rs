@@ -1,0 +1,113 @@
+//! A group of cases: runs each call on both sides, compares all of both answers and keeps count.
+
+use crate::call::{hex, Answer, Call, Image, Input, Width};
+use crate::{library, model};
+
+pub struct Group {
+    name: String,
+    calls: u64,
+    cases: u64,
+    different: u64,
+    case_differs: bool,
+    /// How often each number from 0 to 6 was the right answer.
+    pub numbers: [u64; 7],
+}
+
+impl Group {
+    pub fn new(name: impl Into<String>) -> Group {
+        let name = name.into();
+        Group { name, calls: 0, cases: 0, different: 0, case_differs: false, numbers: [0; 7] }
+    }
+
+    /// Begins the next case; what follows is counted for it.
+    pub fn case(&mut self) {
+        self.cases += 1;
+        self.case_differs = false;
+    }
+
+    /// Compares one call on both sides. The case goes on from the model's answer.
+    pub fn call(&mut self, image: &mut Image, call: Call) -> Answer {
+        let right = model::answer(image, &call);
+        for empty in library::empty_pointers(&call) {
+            let given = library::answer(image, &call, empty);
+            self.calls += 1;
+            self.numbers[right.number as usize] += 1;
+            if given != right {
+                let state = hex(image);
+                self.differs(&format!("{call}, state {state}"), &given.to_string(), &right.to_string());
+            }
+        }
+        *image = right.image;
+        right
+    }
+
+    /// Compares what a call gave with what is known from elsewhere.
+    pub fn same(&mut self, what: &str, given: &[u8], right: &[u8]) {
+        if given != right {
+            self.differs(what, &hex(given), &hex(right));
+        }
+    }
+
+    pub fn number(&mut self, what: &str, given: u32, right: u32) {
+        if given != right {
+            self.differs(what, &given.to_string(), &right.to_string());
+        }
+    }
+
+    fn differs(&mut self, what: &str, given: &str, right: &str) {
+        if self.different == 0 {
+            println!("first difference in {}, call {}: {what}", self.name, self.calls);
+            println!("  given: {given}");
+            println!("  right: {right}");
+        }
+        if !self.case_differs {
+            self.different += 1;
+        }
+        self.case_differs = true;
+    }
+
+    /// Prints the group's line, with how often each number was the right one; says whether all was equal.
+    pub fn end(&self) -> bool {
+        let equal = self.cases - self.different;
+        print!("{}: {equal} of {} equal ({} calls; numbers", self.name, self.cases, self.calls);
+        for (number, times) in self.numbers.iter().enumerate().filter(|(_, times)| **times > 0) {
+            print!(" {number}:{times}");
+        }
+        println!(")");
+        self.different == 0
+    }
+
+    pub fn fresh(&mut self, width: Width) -> Image {
+        let mut image = [0xee; 128];
+        self.call(&mut image, Call::Fresh(width));
+        image
+    }
+
+    pub fn feed(&mut self, image: &mut Image, piece: &[u8]) -> Answer {
+        self.call(image, Call::Feed(Input::Bytes(piece)))
+    }
+
+    pub fn digest(&mut self, image: &mut Image) -> Vec<u8> {
+        let length = model::State::read(image).width.digest();
+        self.call(image, Call::Finish(length)).output
+    }
+
+    pub fn import(&mut self, width: Width, record: &[u8]) -> (u32, Image) {
+        let mut image = [0xee; 128];
+        let answer = self.call(&mut image, Call::Import(width, record));
+        (answer.number, image)
+    }
+
+    /// Every call that a state can refuse, each on the state as given, and reset.
+    pub fn every_call(&mut self, image: &Image) {
+        let width = model::State::read(image).width;
+        for length in [0, 5, 64, 200] {
+            self.feed(&mut image.clone(), &[0x77; 200][..length]);
+        }
+        for length in [0, width.digest(), width.record(), width.digest() + 1] {
+            self.call(&mut image.clone(), Call::Finish(length));
+            self.call(&mut image.clone(), Call::Export(length));
+        }
+        self.call(&mut image.clone(), Call::Reset);
+    }
+}

@@ -1,0 +1,104 @@
+//! The same calls, answered by the library through its C face.
+
+use crate::call::{Answer, Call, Image, Width};
+use std::ptr::{self, NonNull};
+
+extern "C" {
+    fn ripemd_fresh160(state: *mut u8);
+    fn ripemd_fresh320(state: *mut u8);
+    fn ripemd_reset(state: *mut u8);
+    fn ripemd_feed(state: *mut u8, piece: *const u8, n: usize) -> u32;
+    fn ripemd_finish(state: *const u8, output: *mut u8, n: usize) -> u32;
+    fn ripemd_export(state: *const u8, output: *mut u8, n: usize) -> u32;
+    fn ripemd_import160(state: *mut u8, record: *const u8, n: usize) -> u32;
+    fn ripemd_import320(state: *mut u8, record: *const u8, n: usize) -> u32;
+    fn ripemd_one_shot160(message: *const u8, m: usize, output: *mut u8, n: usize) -> u32;
+    fn ripemd_one_shot320(message: *const u8, m: usize, output: *mut u8, n: usize) -> u32;
+}
+
+/// Odd, so that nothing lent lies at an even address by chance.
+const EDGE: usize = 33;
+const EDGE_BYTE: u8 = 0xc3;
+
+/// Bytes with an edge on each side, which shows a write beside them.
+struct Guarded(Vec<u8>);
+
+impl Guarded {
+    fn new(bytes: &[u8]) -> Guarded {
+        let mut all = vec![EDGE_BYTE; EDGE];
+        all.extend(bytes);
+        all.extend([EDGE_BYTE; EDGE]);
+        Guarded(all)
+    }
+
+    fn bytes(&self) -> &[u8] {
+        &self.0[EDGE..self.0.len() - EDGE]
+    }
+
+    /// Where the bytes begin; for no bytes the address that stands for an empty slice.
+    fn pointer(&mut self, empty: *mut u8) -> *mut u8 {
+        if self.bytes().is_empty() {
+            return empty;
+        }
+        self.0[EDGE..].as_mut_ptr()
+    }
+
+    fn edges_changed(&self) -> bool {
+        let (left, rest) = self.0.split_at(EDGE);
+        let right = &rest[rest.len() - EDGE..];
+        left.iter().chain(right).any(|byte| *byte != EDGE_BYTE)
+    }
+}
+
+/// The addresses to try for an empty slice: what Rust hands over, and what C often does.
+pub fn empty_pointers(call: &Call) -> Vec<*mut u8> {
+    let mut pointers = vec![NonNull::dangling().as_ptr()];
+    if call.lends_an_empty_slice() {
+        pointers.push(ptr::null_mut());
+    }
+    pointers
+}
+
+pub fn answer(before: &Image, call: &Call, empty: *mut u8) -> Answer {
+    let mut state = Guarded::new(before);
+    let mut input = Guarded::new(call.input().bytes());
+    let mut output = Guarded::new(&call.output());
+    let at = state.pointer(empty);
+    let from = input.pointer(empty);
+    let to = output.pointer(empty);
+    let n = output.bytes().len();
+    // SAFETY: every pointer goes with the length of its own buffer, or with a claimed length that
+    // the call must refuse unread.
+    let number = unsafe { raw(call, at, from, to, n) };
+    Answer {
+        number,
+        image: state.bytes().try_into().unwrap(),
+        output: output.bytes().to_vec(),
+        spilt: state.edges_changed() || output.edges_changed() || input.edges_changed() || input.bytes() != call.input().bytes(),
+    }
+}
+
+unsafe fn raw(call: &Call, state: *mut u8, from: *const u8, to: *mut u8, n: usize) -> u32 {
+    use Width::*;
+    let m = call.input().length();
+    match call {
+        Call::Fresh(width) => {
+            match width {
+                W160 => ripemd_fresh160(state),
+                W320 => ripemd_fresh320(state),
+            }
+            0
+        }
+        Call::Reset => {
+            ripemd_reset(state);
+            0
+        }
+        Call::Feed(_) => ripemd_feed(state, from, m),
+        Call::Finish(_) => ripemd_finish(state, to, n),
+        Call::Export(_) => ripemd_export(state, to, n),
+        Call::Import(W160, _) => ripemd_import160(state, from, m),
+        Call::Import(W320, _) => ripemd_import320(state, from, m),
+        Call::OneShot(W160, ..) => ripemd_one_shot160(from, m, to, n),
+        Call::OneShot(W320, ..) => ripemd_one_shot320(from, m, to, n),
+    }
+}

@@ -1,0 +1,136 @@
+/*
+ * RIPEMD-160 and RIPEMD-320 for C and C++: the calls of libripemd_c.a, which
+ * `rt staticlib ripemd_c` proves and writes to target/staticlib. To link it:
+ *
+ *     cc -Iinclude program.c target/staticlib/libripemd_c.a
+ *
+ * A state holds all that is known of a message so far. It is 128 bytes of
+ * the caller's memory: copy it, move it or drop it as you like. A call keeps
+ * no pointer and no memory of its own, so states may be used from several
+ * threads, each state by one thread at a time.
+ *
+ *     ripemd_state state;
+ *     uint8_t digest[RIPEMD_160_DIGEST_LENGTH];
+ *     ripemd_fresh160(&state);
+ *     ripemd_feed(&state, piece, length);       (once for each piece)
+ *     ripemd_finish(&state, digest, sizeof digest);
+ *
+ * Bytes are lent as a pointer and a length. They must not overlap the state
+ * or each other. Where the length is 0 the pointer is not followed: it may
+ * point anywhere, and NULL does no harm.
+ */
+#ifndef RIPEMD_H
+#define RIPEMD_H
+
+#include <stddef.h>
+#include <stdint.h>
+
+#ifdef __cplusplus
+extern "C" {
+#endif
+
+/* Lengths in bytes. */
+#define RIPEMD_160_DIGEST_LENGTH 20
+#define RIPEMD_320_DIGEST_LENGTH 40
+#define RIPEMD_160_RECORD_LENGTH 28
+#define RIPEMD_320_RECORD_LENGTH 48
+#define RIPEMD_STATE_LENGTH 128
+
+/*
+ * The number that a call gives back. Anything but RIPEMD_DONE is a refusal.
+ * Where several would hold, the call's comment lists them in order and only
+ * the first that holds is given.
+ */
+enum ripemd_number {
+    RIPEMD_DONE = 0,
+    RIPEMD_TOO_LONG = 1,      /* the message would have 2^61 bytes or more */
+    RIPEMD_MID_BLOCK = 2,     /* bytes taken are not a multiple of 64 */
+    RIPEMD_OUTPUT_LENGTH = 3, /* the output is not exactly of the width's length */
+    RIPEMD_RECORD_LENGTH = 4, /* the record is not exactly of the width's length */
+    RIPEMD_RECORD_COUNT = 5,  /* the record's block count is 2^55 or more */
+    RIPEMD_ILL_FORMED = 6     /* the state is not well formed */
+};
+
+/*
+ * The image of a state; numbers low byte first.
+ *
+ *     byte 0         width: 0 is 160, 1 is 320; only whether it is odd is read
+ *     bytes 1-7      written as zero, not read
+ *     bytes 8-15     count of whole blocks taken
+ *     bytes 16-23    fill: bytes of the block that is not yet whole
+ *     bytes 24-63    ten words of four bytes
+ *     bytes 64-127   tail: the block that is not yet whole
+ *
+ * It is well formed when the count is below 2^55, the fill is at most 63,
+ * the tail is zero from the fill on and, at width 160, words 5 to 9 are zero.
+ * Every call below leaves a well formed state so; only damage from outside
+ * makes another.
+ */
+typedef struct ripemd_state {
+    uint8_t image[RIPEMD_STATE_LENGTH];
+} ripemd_state;
+
+/*
+ * Sets the state to that of an empty message at the width named. What the
+ * memory held before does not matter. Never refused.
+ */
+void ripemd_fresh160(ripemd_state *state);
+void ripemd_fresh320(ripemd_state *state);
+
+/*
+ * Sets the state to that of an empty message at the state's own width,
+ * whatever else it holds. Never refused.
+ */
+void ripemd_reset(ripemd_state *state);
+
+/*
+ * Takes the next n bytes of the message; pieces may be cut anywhere.
+ * Done: all n bytes are taken.
+ * Refused, RIPEMD_ILL_FORMED then RIPEMD_TOO_LONG: none is taken, and the
+ * state is byte for byte as it was.
+ */
+uint32_t ripemd_feed(ripemd_state *state, const uint8_t *piece, size_t n);
+
+/*
+ * Writes the digest of all bytes taken so far. The state is only read, and
+ * feeding may go on.
+ * Done: all n bytes of the output are the digest; n is 20 or 40 by width.
+ * Refused, RIPEMD_ILL_FORMED then RIPEMD_OUTPUT_LENGTH: no byte is written.
+ */
+uint32_t ripemd_finish(const ripemd_state *state, uint8_t *output, size_t n);
+
+/*
+ * Writes the state's record, from which import goes on after a restart: five
+ * or ten words, then the block count as eight bytes, low byte first. It is
+ * the record of the Rust crate ripemd 0.2.0 (Ripemd160Core, Ripemd320Core).
+ * The state is only read.
+ * Done: all n bytes of the output are the record; n is 28 or 48 by width.
+ * Refused, RIPEMD_ILL_FORMED then RIPEMD_OUTPUT_LENGTH then
+ * RIPEMD_MID_BLOCK: no byte is written.
+ */
+uint32_t ripemd_export(const ripemd_state *state, uint8_t *output, size_t n);
+
+/*
+ * Sets the state to the one that a record of the width named was exported
+ * from. What the memory held before does not matter.
+ * Done: feeding and finishing go on from the record's words and count. Any
+ * words are taken: a record damaged there cannot be told from a good one.
+ * Refused, RIPEMD_RECORD_LENGTH then RIPEMD_RECORD_COUNT: the state is that
+ * of an empty message at the width named.
+ */
+uint32_t ripemd_import160(ripemd_state *state, const uint8_t *record, size_t n);
+uint32_t ripemd_import320(ripemd_state *state, const uint8_t *record, size_t n);
+
+/*
+ * Writes the digest of a whole message of m bytes, with no state.
+ * Done: all n bytes of the output are the digest; n is 20 or 40 by width.
+ * Refused, RIPEMD_OUTPUT_LENGTH then RIPEMD_TOO_LONG: no byte is written.
+ */
+uint32_t ripemd_one_shot160(const uint8_t *message, size_t m, uint8_t *output, size_t n);
+uint32_t ripemd_one_shot320(const uint8_t *message, size_t m, uint8_t *output, size_t n);
+
+#ifdef __cplusplus
+}
+#endif
+
+#endif

@@ -1,0 +1,70 @@
+//! RIPEMD-160 and RIPEMD-320 by a static library that is proved to compute the published digests.
+//!
+//! ```
+//! use ripemd::Ripemd160;
+//!
+//! let mut hasher = Ripemd160::new();
+//! hasher.update(b"message ");
+//! hasher.update(b"digest");
+//! let hex: String = hasher.finalize().iter().map(|byte| format!("{byte:02x}")).collect();
+//! assert_eq!(hex, "5d0689ef49d2fae572b881b123a85ffa21595f36");
+//! ```
+//!
+//! # Across a restart
+//!
+//! After a multiple of 64 bytes the hasher can be kept as a record. `examples/restart.rs` does
+//! this through a file.
+//!
+//! ```
+//! use ripemd::{Error, Ripemd320};
+//!
+//! let message = [7; 100];
+//! let mut before = Ripemd320::new();
+//! before.update(&message[..64]);
+//! let record = before.serialize()?;
+//!
+//! let mut after = Ripemd320::deserialize(&record)?;
+//! after.update(&message[64..]);
+//! assert_eq!(after.serialize().unwrap_err(), Error::MidBlock);
+//! assert_eq!(after.finalize(), Ripemd320::digest(message));
+//! # Ok::<(), Error>(())
+//! ```
+//!
+//! # From a reader
+//!
+//! ```
+//! use ripemd::Ripemd160;
+//!
+//! let mut hasher = Ripemd160::new();
+//! std::io::copy(&mut "abc".as_bytes(), &mut hasher)?;
+//! assert_eq!(hasher.finalize(), Ripemd160::digest("abc"));
+//! # Ok::<(), std::io::Error>(())
+//! ```
+//!
+//! # Coming from RustCrypto's ripemd 0.2.0
+//!
+//! - The methods belong to the types: drop `use ripemd::Digest`.
+//! - A digest is an array, `[u8; 20]` or `[u8; 40]`.
+//! - `serialize` gives the record of `Ripemd160Core` or `Ripemd320Core`, the same bytes, and is
+//!   refused in the middle of a block. The old `Ripemd160` appended its part-filled block.
+//! - `deserialize` refuses a block count of 2^55 or more, and `update` a message of 2^61 bytes or
+//!   more: from there on the old crate's bit length overflowed.
+//!
+//! # Building
+//!
+//! `rt staticlib ripemd_c` in the repository's root writes the library to `target/staticlib`, where
+//! the build looks for it; `RIPEMD_LIB_DIR` names another folder.
+#![deny(missing_docs, unsafe_code)]
+
+mod error;
+mod ffi;
+mod hasher;
+
+pub use error::Error;
+
+use ffi::{Image, Width};
+use hasher::{hasher, NEVER};
+use std::{fmt, io};
+
+hasher!(Ripemd160, "160", Width::W160, 20, 28);
+hasher!(Ripemd320, "320", Width::W320, 40, 48);
