@@ -1,0 +1,139 @@
+// Replays a sample of the Rust's answers, which crates/vectors/stdout holds. `compare/run --sample FILE` writes that file anew from the Rust,
+// and compare/sample.rs says what each of its rows is.
+mod rows;
+
+ghost use Prim.Native.Nat.{_≤_};
+ghost use lib.ListN.{length};
+use ripemd::State;
+use ripemd::Width;
+
+// The message of the sample.
+fn message() -> [u8; 256] {
+    let mut m = [0u8; 256];
+    let mut i = 0;
+    while i < 256 {
+        m[i] = ((i * 7 + 3) % 256) as u8;
+        i += 1;
+    }
+    m
+}
+
+fn fed(s: State, piece: &[u8]) -> State {
+    let f = ripemd::feed(s, piece);
+    f.state
+}
+
+// The state after a text, so many times.
+fn repeated(w: Width, text: &[u8], times: usize) -> State {
+    let mut s = ripemd::fresh(w);
+    let mut i = 0;
+    while i < times {
+        let t = fed(s, text);
+        s = t;
+        i += 1;
+    }
+    s
+}
+
+fn vector(w: Width, name: &[u8], text: &[u8], times: usize) {
+    rows::digest(w, b"vector", name, repeated(w, text, times));
+}
+
+fn vectors(w: Width) {
+    vector(w, b"empty", b"", 1);
+    vector(w, b"a", b"a", 1);
+    vector(w, b"abc", b"abc", 1);
+    vector(w, b"message-digest", b"message digest", 1);
+    vector(w, b"a..z", b"abcdefghijklmnopqrstuvwxyz", 1);
+    vector(
+        w,
+        b"abcdbcde..nopq",
+        b"abcdbcdecdefdefgefghfghighijhijkijkljklmklmnlmnomnopnopq",
+        1,
+    );
+    vector(
+        w,
+        b"A..Za..z0..9",
+        b"ABCDEFGHIJKLMNOPQRSTUVWXYZabcdefghijklmnopqrstuvwxyz0123456789",
+        1,
+    );
+    vector(w, b"8*1234567890", b"1234567890", 8);
+    vector(
+        w,
+        b"1000000*a",
+        b"aaaaaaaaaaaaaaaaaaaaaaaaaaaaaaaaaaaaaaaaaaaaaaaaaa",
+        20000,
+    );
+}
+
+// The digest of the message's first n bytes, for n from 0 to 200.
+fn lengths(w: Width, m: &[u8]) {
+    let mut n = 0;
+    while n <= 200 {
+        rows::digest_at(w, b"length", n, fed(ripemd::fresh(w), rows::first(m, n)));
+        n += 1;
+    }
+}
+
+// The record after the message's first n bytes.
+fn record(w: Width, m: &[u8], n: usize) {
+    let s = fed(ripemd::fresh(w), rows::first(m, n));
+    match w {
+        Width::W160 => {
+            let mut out = [0u8; 28];
+            ripemd::export(s, &mut out);
+            rows::record_at(w, n, &out);
+        }
+        Width::W320 => {
+            let mut out = [0u8; 48];
+            ripemd::export(s, &mut out);
+            rows::record_at(w, n, &out);
+        }
+    }
+}
+
+// The state that the record after the message's first block makes, where its count is the last that is accepted.
+fn last_state(w: Width, m: &[u8]) -> State {
+    let s = fed(ripemd::fresh(w), rows::first(m, 64));
+    match w {
+        Width::W160 => {
+            let mut out = [0u8; 28];
+            ripemd::export(s, &mut out);
+            words::bytes::put(&mut out, 20, 8, 0x007f_ffff_ffff_ffff);
+            let i = ripemd::import(w, &out);
+            i.state
+        }
+        Width::W320 => {
+            let mut out = [0u8; 48];
+            ripemd::export(s, &mut out);
+            words::bytes::put(&mut out, 40, 8, 0x007f_ffff_ffff_ffff);
+            let i = ripemd::import(w, &out);
+            i.state
+        }
+    }
+}
+
+// The digest after n bytes more from there.
+fn last(w: Width, m: &[u8], n: usize) {
+    rows::digest_at(w, b"last", n, fed(last_state(w, m), rows::first(m, n)));
+}
+
+fn sample(w: Width) {
+    let m = message();
+    vectors(w);
+    lengths(w, &m);
+    record(w, &m, 0);
+    record(w, &m, 64);
+    record(w, &m, 128);
+    record(w, &m, 192);
+    last(w, &m, 0);
+    last(w, &m, 1);
+    last(w, &m, 55);
+    last(w, &m, 56);
+    last(w, &m, 63);
+}
+
+fn main() {
+    sample(Width::W160);
+    sample(Width::W320);
+}

@@ -1,0 +1,62 @@
+// A row of the sample: WIDTH KIND ARGUMENT HEX.
+use libc::STDOUT_FILENO;
+use ripemd::State;
+use ripemd::Width;
+
+// The first n bytes of s, or all of it.
+pub fn first(s: &[u8], n: usize) -> &[u8] {
+    if n <= s.len() {
+        return &s[..n];
+    }
+    s
+}
+
+fn bits(w: Width) -> u64 {
+    match w {
+        Width::W160 => 160,
+        Width::W320 => 320,
+    }
+}
+
+fn named(w: Width, kind: &[u8], name: &[u8], bytes: &[u8]) {
+    let mut out = [0u8; 256];
+    let a = text::decimal(&mut out, 0, bits(w));
+    let b = text::bytes(&mut out, a, b" ");
+    let c = text::bytes(&mut out, b, kind);
+    let d = text::bytes(&mut out, c, b" ");
+    let e = text::bytes(&mut out, d, name);
+    let f = text::bytes(&mut out, e, b" ");
+    let g = text::hex(&mut out, f, bytes);
+    let n = text::bytes(&mut out, g, b"\n");
+    io::write_all(STDOUT_FILENO, first(&out, n));
+}
+
+// The digest of a state, under a name.
+pub fn digest(w: Width, kind: &[u8], name: &[u8], s: State) {
+    match w {
+        Width::W160 => {
+            let mut out = [0u8; 20];
+            ripemd::finish(s, &mut out);
+            named(w, kind, name, &out);
+        }
+        Width::W320 => {
+            let mut out = [0u8; 40];
+            ripemd::finish(s, &mut out);
+            named(w, kind, name, &out);
+        }
+    }
+}
+
+// The same under a number.
+pub fn digest_at(w: Width, kind: &[u8], number: usize, s: State) {
+    let mut name = [0u8; 20];
+    let n = text::decimal(&mut name, 0, number as u64);
+    digest(w, kind, first(&name, n), s);
+}
+
+// A record, under a number.
+pub fn record_at(w: Width, number: usize, bytes: &[u8]) {
+    let mut name = [0u8; 20];
+    let n = text::decimal(&mut name, 0, number as u64);
+    named(w, b"record", first(&name, n), bytes);
+}
