@@ -2,8 +2,18 @@
 // nothing is written and the place comes back as it was.
 ghost use mathlib.Core.Path.{_≡_};
 ghost use Prim.Native.Nat.{_≤_, _<_};
-ghost use lib.ListN.{length, drop};
+ghost use lib.ListN.{length, take, drop};
 ghost use Rattle.text.specs.Text.{decimalOf, hexDigit, hexOf, nextAt, putAt};
+
+// The first n bytes of s, or all of it where it has fewer: what was written so far, for a place n.
+pub fn first(s: &[u8], n: usize) -> &[u8]
+    ensures { λ r. ⌜ now r ≡ take n (now (s .entry)) ⌝ }
+{
+    if n <= s.len() {
+        return &s[..n];
+    }
+    s
+}
 
 // The text, into out from at on.
 pub fn bytes(out: &mut [u8], at: usize, text: &[u8]) -> usize

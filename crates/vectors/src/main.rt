@@ -2,8 +2,6 @@
 // and compare/sample.rs says what each of its rows is.
 mod rows;
 
-ghost use Prim.Native.Nat.{_≤_};
-ghost use lib.ListN.{length};
 use ripemd::State;
 use ripemd::Width;
 
@@ -70,14 +68,14 @@ fn vectors(w: Width) {
 fn lengths(w: Width, m: &[u8]) {
     let mut n = 0;
     while n <= 200 {
-        rows::digest_at(w, b"length", n, fed(ripemd::fresh(w), rows::first(m, n)));
+        rows::digest_at(w, b"length", n, fed(ripemd::fresh(w), text::first(m, n)));
         n += 1;
     }
 }
 
 // The record after the message's first n bytes.
 fn record(w: Width, m: &[u8], n: usize) {
-    let s = fed(ripemd::fresh(w), rows::first(m, n));
+    let s = fed(ripemd::fresh(w), text::first(m, n));
     match w {
         Width::W160 => {
             let mut out = [0u8; 28];
@@ -94,7 +92,7 @@ fn record(w: Width, m: &[u8], n: usize) {
 
 // The state that the record after the message's first block makes, where its count is the last that is accepted.
 fn last_state(w: Width, m: &[u8]) -> State {
-    let s = fed(ripemd::fresh(w), rows::first(m, 64));
+    let s = fed(ripemd::fresh(w), text::first(m, 64));
     match w {
         Width::W160 => {
             let mut out = [0u8; 28];
@@ -115,7 +113,7 @@ fn last_state(w: Width, m: &[u8]) -> State {
 
 // The digest after n bytes more from there.
 fn last(w: Width, m: &[u8], n: usize) {
-    rows::digest_at(w, b"last", n, fed(last_state(w, m), rows::first(m, n)));
+    rows::digest_at(w, b"last", n, fed(last_state(w, m), text::first(m, n)));
 }
 
 fn sample(w: Width) {

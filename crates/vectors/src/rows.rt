@@ -3,14 +3,6 @@ use libc::STDOUT_FILENO;
 use ripemd::State;
 use ripemd::Width;
 
-// The first n bytes of s, or all of it.
-pub fn first(s: &[u8], n: usize) -> &[u8] {
-    if n <= s.len() {
-        return &s[..n];
-    }
-    s
-}
-
 fn bits(w: Width) -> u64 {
     match w {
         Width::W160 => 160,
@@ -28,7 +20,7 @@ fn named(w: Width, kind: &[u8], name: &[u8], bytes: &[u8]) {
     let f = text::bytes(&mut out, e, b" ");
     let g = text::hex(&mut out, f, bytes);
     let n = text::bytes(&mut out, g, b"\n");
-    io::write_all(STDOUT_FILENO, first(&out, n));
+    io::write_all(STDOUT_FILENO, text::first(&out, n));
 }
 
 // The digest of a state, under a name.
@@ -51,12 +43,12 @@ pub fn digest(w: Width, kind: &[u8], name: &[u8], s: State) {
 pub fn digest_at(w: Width, kind: &[u8], number: usize, s: State) {
     let mut name = [0u8; 20];
     let n = text::decimal(&mut name, 0, number as u64);
-    digest(w, kind, first(&name, n), s);
+    digest(w, kind, text::first(&name, n), s);
 }
 
 // A record, under a number.
 pub fn record_at(w: Width, number: usize, bytes: &[u8]) {
     let mut name = [0u8; 20];
     let n = text::decimal(&mut name, 0, number as u64);
-    named(w, b"record", first(&name, n), bytes);
+    named(w, b"record", text::first(&name, n), bytes);
 }

@@ -1,10 +1,12 @@
--- `vectors::rows::first` is safe.
+-- `text::first` meets its contract.
 -- Assumes nothing.
 use mathlib.Core.Path.{sym}
-use lib.Seq.{length-take-le}
+use native.Mathlib.Omega.{arith}
+use lib.Seq.{length-take-le, take-all}
 use borrow.Author.Needs.{needs}
-use Rattle.vectors.proofs.rows.first.Statement.{statement}
-use Rattle.vectors.proofs.rows.first.Tie as tie
+use borrow.Author.Needs.{needs}
+use Rattle.text.proofs.first.Statement.{statement}
+use Rattle.text.proofs.first.Tie as tie
 
 slice-aggregate-result : tie.Need-slice-aggregate-result
 slice-aggregate-result c = sym (length-take-le _ _ (c .before .if1 .taken))
@@ -13,7 +15,7 @@ returns : tie.Need-returns
 returns c = search needs
 
 returns-2 : tie.Need-returns-2
-returns-2 c = search needs
+returns-2 c = sym (take-all (c .before .args .n) (c .before .args .s .now) (omega arith))
 
 pub first-spec : {M : Type 1} → statement M
 first-spec = tie.close (tie.spec slice-aggregate-result returns returns-2)
