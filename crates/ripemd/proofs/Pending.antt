@@ -3,17 +3,17 @@
 use Prim.Native.Nat.{ℕ, zero, suc, _+_, _-_, _*_, _/_, _%_, _^_, _≤_, _<_}
 use mathlib.Core.Path.{_≡_, refl, ap, sym, _∙_}
 use mathlib.Core.List.{List, [], _∷_, _++_, append-assoc, append-nil}
-use mathlib.Core.Bool.{Bool, true}
+use mathlib.Core.Bool.{Bool, true, false, cond}
 use native.Mathlib.Omega.{arith}
 use native.Mathlib.Nat.{zero-add}
 use borrow.Author.Tests.{lt-ltb}
 use lib.ListN.{length, take, drop, replicate, length-append, length-take, length-drop}
-use lib.Seq.{paste, take-length, take-all, drop-drop, take-take, drop-length, drop-append-add, take-append-add, take-append-le, length-take-le}
-use lib.Dec.{eqb·suc-zero}
+use lib.Seq.{paste, take-length, take-all, drop-drop, take-take, drop-length, drop-append-add, take-append-add, take-append-le, take-at, length-take-le}
+use lib.Dec.{eqb·suc-zero, ltb}
 use Rattle.compress.specs.Block.{blocksOf}
 use Rattle.compress.proofs.Chain.{blocks-none}
 use Rattle.ripemd.specs.State.{zeros, moved}
-use Rattle.ripemd.specs.Feed.{pending, wholeBlocks, asTail, fedState, chosenOf, Filled}
+use Rattle.ripemd.specs.Feed.{pending, wholeBlocks, asTail, fedState, chosenOf, filledOf}
 use Rattle.ripemd.specs.declared.State.{State}
 use Rattle.ripemd.specs.declared.BlockCount.{BlockCount}
 use Rattle.ripemd.proofs.Zeros.{zeros-are, drop-replicate}
@@ -47,18 +47,22 @@ block-is full p f (suc i) hl hf up =
     rw (eqb·suc-zero i) (sym (ap (take 64) (drop-past full p f (omega arith) (64 * suc i) (omega arith))))
 
 -- a tail filled up from the piece
-module _ (t p : List ℕ) (f : ℕ) (ht : length t ≡ 64) (hf : f < 64) (hp : 64 ≤ f + length p) where
-  pub filled-keeps : (gap : ℕ) → f + gap ≤ 64 → take f (paste t f p gap) ≡ take f t
-  filled-keeps gap h =
-      append-assoc-at (take-append-le f (take f t) (take gap p ++ drop (f + gap) t) (omega (arith, length-take-le f t (omega arith))))
-    where
-      append-assoc-at : take f (take f t ++ (take gap p ++ drop (f + gap) t)) ≡ take f (take f t) → take f (paste t f p gap) ≡ take f t
-      append-assoc-at e = ap (take f) (append-assoc (take f t) (take gap p) (drop (f + gap) t)) ∙ e ∙ take-take f f t (omega arith)
-
-  pub filled-up : paste t f p (64 - f) ≡ take f t ++ take (64 - f) p
-  filled-up =
+module _ (t p : List ℕ) (f : ℕ) (ht : length t ≡ 64) (hf : f < 64) where
+  pub filled-up : 0 < f → paste t f p (64 - f) ≡ filledOf t f p
+  filled-up h =
       let e : f + (64 - f) ≡ length t = omega arith in
-      rw (e, drop-length) (append-nil (take f t ++ take (64 - f) p))
+      rw (lt-ltb 0 f h, e, drop-length) (append-nil (take f t ++ take (64 - f) p))
+
+  -- it keeps what was pending, and the piece follows
+  pub filled-keeps : take f (filledOf t f p) ≡ take f t
+  filled-keeps = by-test (ltb 0 f)
+    where
+      by-test : (b : Bool) → take f (cond b (take f t ++ take (64 - f) p) t) ≡ take f t
+      by-test true = take-at (take f t) (take (64 - f) p) f (length-take-le f t (omega arith))
+      by-test false = refl
+
+  pub filled-full : 0 < f → filledOf t f p ≡ take f (filledOf t f p) ++ take (64 - f) p
+  filled-full h = rw filled-keeps (rw (lt-ltb 0 f h))
 
 -- the state after a piece, which fills no block, or some
 module _ (s : State) (p : List ℕ) (ht : length (s .tail) ≡ 64) (hf : s .fill < 64) where

@@ -14,16 +14,6 @@ use lib.Bits.{bitOr, or-zero-l, or-zero-r, or-add-and, and-le-l}
 use lib.Dec.{eqb}
 use Rattle.ripemd.specs.State.{zeros}
 
-module _ (l : List ℕ) (i : ℕ) (h : i < length l) where
-  pub zeros-stop : (getD l i 0 ≡ 0 → ⊥) → zeros (drop i l) ≡ false
-  zeros-stop ne =
-      ap zeros (drop-cons l i 0 h) ∙ ap (λ (b : Bool). b && zeros (drop (suc i) l)) (ne-eqb (getD l i 0) 0 ne)
-
-  pub zeros-step : getD l i 0 ≡ 0 → zeros (drop i l) ≡ zeros (drop (i + 1) l)
-  zeros-step e =
-      rw add-one
-      (ap zeros (drop-cons l i 0 h) ∙ ap (λ (b : Bool). b && zeros (drop (suc i) l)) (eq-eqb (getD l i 0) 0 e))
-
 pub zeros-end : (l : List ℕ) (i : ℕ) → length l ≤ i → zeros (drop i l) ≡ true
 zeros-end [] zero h = refl
 zeros-end [] (suc i) h = refl

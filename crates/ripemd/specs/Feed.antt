@@ -44,7 +44,6 @@ feedOf s p = record { number = feedNumber s p; state = done (feedNumber s p) (fe
 abbrev pub chosenOf : List ℕ → List ℕ → ℕ → ℕ → List ℕ
 chosenOf t p f i = cond (eqb i 0) (cond (ltb 0 f) t (take 64 p)) (take 64 (drop (64 * i - f) p))
 
--- r is the tail t, filled up from the piece p if anything, f bytes, was pending
-pub record Filled (t : List ℕ) (f : ℕ) (p r : List ℕ) : Type 0 where
-  pub keeps : take f r ≡ take f t
-  pub full : 0 < f → r ≡ take f r ++ take (64 - f) p
+-- the tail t, filled up from the piece p if anything, f bytes, is pending
+abbrev pub filledOf : List ℕ → ℕ → List ℕ → List ℕ
+filledOf t f p = cond (ltb 0 f) (take f t ++ take (64 - f) p) t

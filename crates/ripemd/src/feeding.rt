@@ -5,7 +5,7 @@ ghost use Prim.Native.Nat.{_+_, _-_, _*_, _^_, _≤_, _<_};
 ghost use lib.ListN.{length, take, drop};
 ghost use Rattle.compress.specs.Block.{blocksOf};
 ghost use Rattle.ripemd.specs.State.{faultOf};
-ghost use Rattle.ripemd.specs.Feed.{chosenOf, Filled, fedState, feedOf};
+ghost use Rattle.ripemd.specs.Feed.{chosenOf, filledOf, fedState, feedOf};
 use crate::BlockCount;
 use crate::Fed;
 use crate::State;
@@ -44,7 +44,7 @@ pub(crate) fn fill_up(tail: [u8; 64], at: usize, piece: &[u8], from: usize, n: u
 // The tail filled up from the piece, where anything is pending.
 fn filled(tail: [u8; 64], fill: usize, piece: &[u8]) -> [u8; 64]
     requires { ⌜ (fill < 64) × (64 ≤ fill + length (now piece)) ⌝ }
-    ensures { λ r. ⌜ Filled tail fill (now (piece .entry)) r ⌝ }
+    ensures { λ r. ⌜ r ≡ filledOf tail fill (now (piece .entry)) ⌝ }
 {
     if 0 < fill {
         return fill_up(tail, fill, piece, 0, 64 - fill);

@@ -1,12 +1,12 @@
 -- `ripemd::feeding::filled` meets its contract.
 -- Assumes nothing.
+use mathlib.Core.Path.{_≡_, sym, _∙_}
+use lib.ListN.{length}
+use borrow.Author.Tests.{le-ltb}
 use borrow.Author.Needs.{needs}
 use native.Mathlib.Omega.{arith}
-use mathlib.Core.Path.{_≡_, refl, _∙_, sym, ap}
-use Prim.Native.Nat.{_≤_, _<_, _-_, _+_}
-use lib.ListN.{length, take}
-use mathlib.Core.List.{_++_}
-use Rattle.ripemd.proofs.Pending.{filled-keeps, filled-up}
+use Rattle.ripemd.proofs.Pending.{filled-up}
+use borrow.Author.Needs.{needs}
 use Rattle.ripemd.proofs.feeding.filled.Statement.{statement}
 use Rattle.ripemd.proofs.feeding.filled.Tie as tie
 
@@ -20,16 +20,10 @@ returns : tie.Need-returns
 returns c =
     let a = c .before .before .before .args in
     let ht : length (a .tail) ≡ 64 = search needs in
-    let k = filled-keeps (a .tail) (a .piece .now) (a .fill) ht (omega arith) (omega arith) (64 - a .fill) (omega arith) in
-    let u = filled-up (a .tail) (a .piece .now) (a .fill) ht (omega arith) (omega arith) in
-    record {
-      keeps = ap (take (a .fill)) (c .fill-up .ensures) ∙ k;
-      full = λ h.
-          c .fill-up .ensures ∙ u ∙ ap (λ l. l ++ take (64 - a .fill) (a .piece .now)) (sym (ap (take (a .fill)) (c .fill-up .ensures) ∙ k));
-    }
+    c .fill-up .ensures ∙ filled-up (a .tail) (a .piece .now) (a .fill) ht (omega arith) (c .before .if1 .taken)
 
 returns-2 : tie.Need-returns-2
-returns-2 c = record { keeps = refl; full = λ h. absurd (omega arith) }
+returns-2 c = simp (le-ltb _ _ (c .if1 .left))
 
 pub filled-spec : {M : Type 1} → statement M
 filled-spec = tie.close (tie.spec sub-fill-up fill-up-requires returns returns-2)
