@@ -1,7 +1,7 @@
 -- DEMAND 3. Cut a message anywhere, empty pieces allowed; export and import wherever the bytes so far are a multiple of 64; calls that are
 -- refused in between, and finishing, count as not made. The digest is that of the whole message.
 -- Assumes nothing.
-use Prim.Native.Nat.{ℕ, suc, _+_, _*_, _/_, _%_, _^_, _<_, _≤_}
+use Prim.Native.Nat.{ℕ, _+_, _*_, _/_, _%_, _^_, _<_, _≤_}
 use mathlib.Core.Path.{_≡_, refl, sym, ap, _∙_, subst}
 use mathlib.Core.List.{List, [], _∷_, _++_, append-nil, append-assoc}
 use mathlib.Core.Bool.{Bool, true, false}

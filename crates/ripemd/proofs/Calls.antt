@@ -18,9 +18,9 @@ use Rattle.ripemd.specs.Record.{recordLength, exportNumber}
 use Rattle.ripemd.specs.declared.State.{State}
 use Rattle.ripemd.specs.declared.Fed.{Fed}
 use Rattle.ripemd.proofs.Well.{no-fault}
-use Rattle.ripemd.proofs.Outcomes.{accepted, refused}
+use Rattle.ripemd.proofs.Outcomes.{accepted}
 use Rattle.ripemd.proofs.Ends.{digest-from}
-use Rattle.ripemd.proofs.Kept.{Sound, fresh-sound, fed-sound}
+use Rattle.ripemd.proofs.Kept.{fresh-sound, fed-sound}
 
 module _ (s : State) (z : faultOf s ≡ 0) where
   pub feed-takes : (p : List ℕ) → takenOf s + length p < 2 ^ 61 → feedOf s p ≡ record { number = 0; state = fedState s p }

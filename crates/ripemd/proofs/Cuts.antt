@@ -1,14 +1,14 @@
 -- Feeding a piece and then another is feeding them joined.
 -- Assumes nothing.
 use Prim.Native.Nat.{ℕ, _+_, _-_, _*_, _/_, _%_, _<_}
-use mathlib.Core.Path.{_≡_, refl, ap, sym, _∙_}
+use mathlib.Core.Path.{_≡_, ap, sym, _∙_}
 use mathlib.Core.List.{List, _++_, append-assoc}
 use native.Mathlib.Omega.{arith}
 use lib.ListN.{length, take, drop, replicate, length-append, length-drop}
 use lib.Seq.{drop-append-le, drop-drop, take-at}
 use Rattle.compress.specs.Block.{blocksOf}
 use Rattle.compress.proofs.Chain.{blocks-prefix, blocks-more}
-use Rattle.ripemd.specs.Feed.{pending, wholeBlocks, asTail, fedState}
+use Rattle.ripemd.specs.Feed.{pending, fedState}
 use Rattle.ripemd.specs.declared.State.{State}
 use Rattle.ripemd.specs.declared.BlockCount.{BlockCount}
 use Rattle.ripemd.proofs.Pending.{length-pending}

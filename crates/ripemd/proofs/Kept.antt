@@ -1,8 +1,8 @@
 -- What every state that is reached keeps: it is well formed, its tail has 64 bytes and its words are chaining words of its width.
 -- Assumes nothing.
-use Prim.Native.Nat.{ℕ, _+_, _-_, _*_, _/_, _%_, _^_, _≤_, _<_}
-use mathlib.Core.Path.{_≡_, refl, ap, sym, _∙_}
-use mathlib.Core.List.{List, _++_}
+use Prim.Native.Nat.{ℕ, _+_, _-_, _*_, _%_, _^_, _<_}
+use mathlib.Core.Path.{_≡_, refl, ap, _∙_}
+use mathlib.Core.List.{List}
 use mathlib.Core.Bool.{true}
 use native.Mathlib.Omega.{arith}
 use lib.Dec.{lit<}
@@ -13,7 +13,7 @@ use Rattle.compress.specs.declared.Width.{Width}
 use Rattle.compress.specs.declared.Width.the-variants.{W160, W320}
 use Rattle.compress.proofs.Kept.{Chaining, blocks-chaining}
 use Rattle.ripemd.specs.State.{zeros, takenOf, WellFormed, between, freshOf}
-use Rattle.ripemd.specs.Feed.{pending, wholeBlocks, asTail, fedState}
+use Rattle.ripemd.specs.Feed.{pending, wholeBlocks, fedState}
 use Rattle.ripemd.specs.declared.State.{State}
 use Rattle.ripemd.specs.declared.BlockCount.{BlockCount}
 use Rattle.ripemd.proofs.Zeros.{zeros-replicate}

@@ -2,18 +2,18 @@
 -- Assumes nothing.
 use Prim.Native.Nat.{ℕ, zero, suc, _+_, _-_, _*_, _/_, _%_, _^_, _≤_, _<_}
 use mathlib.Core.Path.{_≡_, refl, ap, sym, _∙_}
-use mathlib.Core.List.{List, [], _∷_, _++_, append-assoc, append-nil}
+use mathlib.Core.List.{List, _++_, append-nil}
 use mathlib.Core.Bool.{Bool, true, false, cond}
 use native.Mathlib.Omega.{arith}
 use native.Mathlib.Nat.{zero-add}
 use borrow.Author.Tests.{lt-ltb}
-use lib.ListN.{length, take, drop, replicate, length-append, length-take, length-drop}
-use lib.Seq.{paste, take-length, take-all, drop-drop, take-take, drop-length, drop-append-add, take-append-add, take-append-le, take-at, length-take-le}
+use lib.ListN.{length, take, drop, replicate, length-append, length-drop}
+use lib.Seq.{paste, take-length, take-all, drop-drop, drop-length, drop-append-add, take-append-add, take-at, length-take-le}
 use lib.Dec.{eqb·suc-zero, ltb}
 use Rattle.compress.specs.Block.{blocksOf}
 use Rattle.compress.proofs.Chain.{blocks-none}
 use Rattle.ripemd.specs.State.{zeros, moved}
-use Rattle.ripemd.specs.Feed.{pending, wholeBlocks, asTail, fedState, chosenOf, filledOf}
+use Rattle.ripemd.specs.Feed.{pending, fedState, chosenOf, filledOf}
 use Rattle.ripemd.specs.declared.State.{State}
 use Rattle.ripemd.specs.declared.BlockCount.{BlockCount}
 use Rattle.ripemd.proofs.Zeros.{zeros-are, drop-replicate}

@@ -1,6 +1,6 @@
 -- An export imported again is the same state, and a record that import accepts is the record of the state that it makes.
 -- Assumes nothing.
-use Prim.Native.Nat.{ℕ, zero, suc, _+_, _-_, _*_, _^_, _≤_, _<_}
+use Prim.Native.Nat.{ℕ, zero, suc, _-_, _*_, _^_, _<_}
 use mathlib.Core.Path.{_≡_, refl, ap, sym, _∙_}
 use mathlib.Core.List.{List, [], _∷_, _++_}
 use mathlib.Core.Bool.{Bool, true, false, cond, not}
@@ -14,7 +14,7 @@ use Rattle.words.proofs.Numbers.{length-bytes, length-words, number-bytes, byte
 use Rattle.compress.specs.Block.{usedOf}
 use Rattle.compress.specs.declared.Width.{Width}
 use Rattle.compress.proofs.Kept.{Chaining}
-use Rattle.ripemd.specs.State.{zeros, between, freshOf}
+use Rattle.ripemd.specs.State.{zeros, between}
 use Rattle.ripemd.specs.Record.{recordLength, recordOf, wordsIn, countIn, importNumber, importOf}
 use Rattle.ripemd.specs.declared.State.{State}
 use Rattle.ripemd.specs.declared.Imported.{Imported}

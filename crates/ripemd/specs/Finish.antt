@@ -1,6 +1,6 @@
 -- What finishing a state gives, and the one-shot call.
 -- Assumes nothing.
-use Prim.Native.Nat.{ℕ, _-_, _*_, _^_}
+use Prim.Native.Nat.{ℕ, _-_, _^_}
 use mathlib.Core.List.{List, [], _∷_, _++_}
 use mathlib.Core.Bool.{cond, not}
 use lib.ListN.{length, take, replicate}

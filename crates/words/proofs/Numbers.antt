@@ -7,8 +7,8 @@ use native.Mathlib.Omega.{arith}
 use native.Mathlib.Nat.{div-lt-iff-lt-mul, pow-suc, pow-le-pow-right}
 use native.Mathlib.Numerals.{add-one}
 use lib.Dec.{lit<}
-use lib.ListN.{length, getD, take, drop, set, length-append, length-take, length-drop, take-append-drop}
-use lib.Seq.{drop-drop, append-snoc, getD-take, getD-drop, drop-cons, take-suc, take-at, drop-at, length-take-le, take-add, ext-getD, getD-set-same, getD-set-other}
+use lib.ListN.{length, getD, take, drop, set, length-append, length-take, length-drop}
+use lib.Seq.{drop-drop, getD-take, getD-drop, drop-cons, take-suc, take-at, drop-at, length-take-le, take-add, ext-getD, getD-set-same, getD-set-other}
 use borrow.Author.Count.{below-more}
 use Rattle.words.specs.Bytes.{bytesOf, numberOf, wordBytes, wordsOf, Below}
 

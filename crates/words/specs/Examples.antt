@@ -2,7 +2,6 @@
 -- Assumes nothing.
 use mathlib.Core.Path.{_≡_, refl}
 use mathlib.Core.List.{[], _∷_}
-use Prim.Native.Nat.{ℕ}
 use Rattle.words.specs.Words.{rolOf}
 use Rattle.words.specs.Bytes.{bytesOf, numberOf}
 

@@ -5,7 +5,7 @@ use Prim.Native.Nat.{ℕ}
 use native.Mathlib.Omega.{arith}
 use lib.ListN.{getD}
 use denote.Ref.{now}
-use Rattle.tables.specs.Rule.{orderOf, shiftOf}
+use Rattle.tables.specs.Rule.{orderOf}
 use Rattle.lines.proofs.Runs.{one}
 use borrow.Author.Needs.{needs}
 use Rattle.lines.proofs.line_step.Statement.{statement}

@@ -1,7 +1,7 @@
 -- `ripemd_c::ripemd_finish` meets its contract.
 -- Assumes nothing.
 use borrow.Author.Needs.{needs}
-use mathlib.Core.Path.{_≡_, ap, _∙_}
+use mathlib.Core.Path.{ap, _∙_}
 use lib.ListN.{length}
 use Rattle.ripemd.specs.Finish.{finishNumber, finishBytes}
 use Rattle.ripemd.specs.declared.State.{State}

@@ -1,6 +1,6 @@
 -- `tables::constant` meets its contract.
 -- Assumes nothing.
-use mathlib.Core.Path.{_≡_, refl}
+use mathlib.Core.Path.{_≡_}
 use native.Mathlib.Omega.{arith}
 use Rattle.tables.specs.Rule.{kOf}
 use borrow.Author.Needs.{needs}

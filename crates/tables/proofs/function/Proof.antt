@@ -1,6 +1,6 @@
 -- `tables::function` meets its contract.
 -- Assumes nothing.
-use mathlib.Core.Path.{_≡_, refl}
+use mathlib.Core.Path.{refl}
 use native.Mathlib.Omega.{arith}
 use Rattle.tables.specs.Rule.{functionOf}
 use borrow.Author.Needs.{needs}

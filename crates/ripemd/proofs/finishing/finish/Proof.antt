@@ -1,16 +1,15 @@
 -- `ripemd::finishing::finish` meets its contract.
 -- Assumes nothing.
-use mathlib.Core.Path.{_≡_, sym, ap, _∙_}
-use mathlib.Core.List.{List, [], _++_, append-nil}
-use Prim.Native.Nat.{ℕ, _*_}
+use mathlib.Core.Path.{_≡_, sym, _∙_}
+use mathlib.Core.List.{[], append-nil}
+use Prim.Native.Nat.{_*_}
 use native.Mathlib.Omega.{arith}
 use borrow.Author.Tests.{eq-eqb, ne-eqb}
-use lib.ListN.{length, take, drop, drop-of-length-le}
-use Rattle.words.specs.Bytes.{wordBytes}
+use lib.ListN.{length, drop, drop-of-length-le}
 use Rattle.compress.specs.Block.{usedOf}
 use Rattle.ripemd.specs.State.{faultOf}
 use Rattle.ripemd.specs.Digest.{digestLength}
-use Rattle.ripemd.specs.Finish.{lastOf, digestOf, finishNumber, finishBytes}
+use Rattle.ripemd.specs.Finish.{digestOf, finishNumber, finishBytes}
 use Rattle.ripemd.proofs.Well.{used-le}
 use Rattle.ripemd.proofs.Outcomes.{accepted, refused}
 use borrow.Author.Needs.{needs}

@@ -1,13 +1,9 @@
 -- `ripemd::padding::pad` meets its contract.
 -- Assumes nothing.
-use mathlib.Core.Path.{_≡_, ap, sym, _∙_}
-use mathlib.Core.List.{List, _++_}
-use Prim.Native.Nat.{ℕ, _+_, _-_, _*_}
+use mathlib.Core.Path.{_≡_}
 use native.Mathlib.Omega.{arith}
-use lib.ListN.{length, take, drop, set, replicate, length-append, length-set}
-use Rattle.words.specs.Bytes.{bytesOf}
-use Rattle.ripemd.specs.State.{takenOf}
-use Rattle.ripemd.specs.Finish.{padCount, padOf, paddedOf}
+use lib.ListN.{length, length-set}
+use Rattle.ripemd.specs.Finish.{paddedOf}
 use Rattle.ripemd.specs.declared.Padded.{Padded}
 use Rattle.ripemd.proofs.Well.{well}
 use Rattle.ripemd.proofs.Ends.{pad-range, pad-bytes}

@@ -6,7 +6,6 @@ use native.Mathlib.Omega.{arith}
 use borrow.Author.Tests.{eq-eqb, ne-eqb}
 use lib.ListN.{length, take, drop}
 use Rattle.words.specs.Bytes.{numberOf}
-use Rattle.compress.specs.Block.{usedOf}
 use Rattle.ripemd.specs.Record.{recordLength, countIn, importNumber, importOf}
 use Rattle.ripemd.specs.declared.State.{State}
 use Rattle.ripemd.specs.declared.Imported.{Imported}

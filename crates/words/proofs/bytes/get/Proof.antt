@@ -1,12 +1,11 @@
 -- `words::bytes::get` meets its contract.
 -- Assumes nothing.
-use Prim.Native.Nat.{ℕ, suc, _≤_, _<_, _-_, _+_, _*_, _^_}
+use Prim.Native.Nat.{ℕ, suc, _≤_, _<_, _-_, _+_, _^_}
 use mathlib.Core.List.{[]}
 use lib.Dec.{lit<}
-use mathlib.Core.Path.{_≡_, refl, _∙_, ap, sym}
+use mathlib.Core.Path.{_≡_, _∙_, ap}
 use native.Mathlib.Omega.{arith}
-use lib.ListN.{length, take, drop, getD, length-drop, length-take, drop-of-length-le}
-use lib.Seq.{take-all}
+use lib.ListN.{take, drop, getD, length-take, drop-of-length-le}
 use borrow.Author.Needs.{needs}
 use Rattle.words.specs.Bytes.{numberOf}
 use Rattle.words.proofs.Numbers.{number-step, pow-room, pow-more}

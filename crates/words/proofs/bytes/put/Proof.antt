@@ -1,12 +1,12 @@
 -- `words::bytes::put` meets its contract.
 -- Assumes nothing.
-use Prim.Native.Nat.{ℕ, _≤_, _<_, _-_, _+_, _%_, _/_}
-use mathlib.Core.Path.{_≡_, refl, _∙_, ap, sym}
+use Prim.Native.Nat.{ℕ, _≤_, _-_, _+_}
+use mathlib.Core.Path.{_≡_, _∙_, ap, sym}
 use mathlib.Core.List.{List, _++_}
 use native.Mathlib.Omega.{arith}
 use native.Mathlib.Nat.{sub-zero}
 use native.Mathlib.Numerals.{add-one}
-use lib.ListN.{length, take, drop, getD, length-drop, length-set}
+use lib.ListN.{length, take, drop}
 use lib.Seq.{paste, paste-suc, paste-zero, length-paste, take-all}
 use borrow.Author.Needs.{needs}
 use Rattle.words.specs.Bytes.{bytesOf}
