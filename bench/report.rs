@@ -30,7 +30,7 @@ fn picture(rows: &[Row]) -> String {
     let shown: Vec<&Row> = rows.iter().filter(|r| r.engine != "Rust crate").collect();
     let (left, unit, step) = (330.0, 220.0, 22.0);
     let height = 70.0 + step * shown.len() as f64;
-    let mut svg = format!("<svg xmlns=\"http://www.w3.org/2000/svg\" width=\"900\" height=\"{height}\" font-family=\"sans-serif\" font-size=\"13\">\n<rect width=\"900\" height=\"{height}\" fill=\"white\"/>\n");
+    let mut svg = format!("<svg xmlns=\"http://www.w3.org/2000/svg\" width=\"950\" height=\"{height}\" font-family=\"sans-serif\" font-size=\"13\">\n<rect width=\"950\" height=\"{height}\" fill=\"white\"/>\n");
     svg += "<text x=\"10\" y=\"22\" font-size=\"16\">Time of a call as a share of the Rust crate's (shorter is faster)</text>\n";
     for (i, r) in shown.iter().enumerate() {
         let y = 40.0 + step * i as f64;

@@ -36,9 +36,11 @@ pub record Decides (rs : List Row) (table : Type 0 → ℕ → Type 0) : Type 1 
   pub on : (B : Type 0) → B → table B (first rs)
   pub off : (B : Type 0) → ¬ B → (x : ℕ) → Other rs x → table B x
 
+-- no row: 0
 pub no-row : Decides [] nothing
 no-row = record { on = λ B b. (λ e. b, λ q. refl); off = λ B nb x o. (λ e. absurd (o e), λ b. absurd (nb b)) }
 
+-- one row more, whose test c says whether C holds, and whose number is none of the others
 pub one-row : (n : ℕ) (c : Bool) (C : Type 0) (rs : List Row) (rest : Type 0 → ℕ → Type 0) → (c ≡ true → C) → (c ≡ false → ¬ C) → Other rs n
     → Decides rs rest → Decides ((n when c) ∷ rs) (number n C rest)
 one-row n c C rs rest so not-so other d = record { on = holds; off = fails }

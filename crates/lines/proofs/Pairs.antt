@@ -2,14 +2,13 @@
 -- Assumes nothing.
 use mathlib.Core.Path.{_≡_, refl}
 use mathlib.Core.List.{List}
-use Prim.Native.Nat.{ℕ, zero, suc, _+_, _*_, _<_}
-use native.Mathlib.Omega.{arith}
+use Prim.Native.Nat.{ℕ, _+_, _*_, _<_}
 use lib.ListN.{length}
 use Rattle.tables.specs.declared.Line.the-variants.{Left, Right}
 use Rattle.lines.specs.Steps.{Pair, pairSteps, exchangeOf}
 use Rattle.lines.specs.Places.{placed, runOf, namedPair, placedPair, walkOf, exchangedAt}
 use Rattle.lines.specs.declared.Both.{Both}
-use Rattle.lines.proofs.Places.{named-placed, placed-named}
+use Rattle.lines.proofs.Places.{five, named-placed, placed-named}
 use Rattle.lines.proofs.Runs.{run-add}
 
 -- from the names to the places and back
@@ -43,9 +42,5 @@ walk-placed x j n q = rw (pair-named j q)
 pub exchange-placed : (n : ℕ) → n < 5 → (q : Pair)
     → exchangedAt n (placedPair (16 * n + 16) q) ≡ placedPair (16 * n + 16) (exchangeOf n q)
 unfolding exchangedAt placedPair placed
-exchange-placed zero h q = refl
-exchange-placed (suc zero) h q = refl
-exchange-placed (suc (suc zero)) h q = refl
-exchange-placed (suc (suc (suc zero))) h q = refl
-exchange-placed (suc (suc (suc (suc zero)))) h q = refl
-exchange-placed (suc (suc (suc (suc (suc n))))) h q = absurd (omega arith)
+exchange-placed n h q =
+    five (λ (n : ℕ). exchangedAt n (placedPair (16 * n + 16) q) ≡ placedPair (16 * n + 16) (exchangeOf n q)) refl refl refl refl refl n h

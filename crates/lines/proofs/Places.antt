@@ -34,33 +34,29 @@ named-mod j v = cc (place-mod j 0, place-mod j 1, place-mod j 2, place-mod j 3, 
 fixed-mod : (j n x k s : ℕ) (v : List ℕ) → stepFixed j n x k s v ≡ stepFixed (j % 5) n x k s v
 fixed-mod j n x k s v = cc (place-mod j 0, place-mod j 1, place-mod j 2, place-mod j 3, place-mod j 4)
 
+-- what holds of 0 to 4 holds below 5
+pub five : (P : ℕ → Type 0) → P 0 → P 1 → P 2 → P 3 → P 4 → (m : ℕ) → m < 5 → P m
+five P p q r s t zero h = p
+five P p q r s t (suc zero) h = q
+five P p q r s t (suc (suc zero)) h = r
+five P p q r s t (suc (suc (suc zero))) h = s
+five P p q r s t (suc (suc (suc (suc zero)))) h = t
+five P p q r s t (suc (suc (suc (suc (suc m))))) h = absurd (omega arith)
+
 -- with j taken modulo 5, each case computes
 named-five : (m : ℕ) → m < 5 → (r : Registers) → named m (turned m r) ≡ r
 unfolding named
-named-five zero h r = refl
-named-five (suc zero) h r = refl
-named-five (suc (suc zero)) h r = refl
-named-five (suc (suc (suc zero))) h r = refl
-named-five (suc (suc (suc (suc zero)))) h r = refl
-named-five (suc (suc (suc (suc (suc m))))) h r = absurd (omega arith)
+named-five m h r = five (λ (m : ℕ). named m (turned m r) ≡ r) refl refl refl refl refl m h
 
 step-five : (m : ℕ) → m < 5 → (n x k s : ℕ) (r : Registers) → turned ((m + 1) % 5) (stepOf n x k s r) ≡ stepFixed m n x k s (turned m r)
 unfolding stepOf
-step-five zero h n x k s r = refl
-step-five (suc zero) h n x k s r = refl
-step-five (suc (suc zero)) h n x k s r = refl
-step-five (suc (suc (suc zero))) h n x k s r = refl
-step-five (suc (suc (suc (suc zero)))) h n x k s r = refl
-step-five (suc (suc (suc (suc (suc m))))) h n x k s r = absurd (omega arith)
+step-five m h n x k s r =
+    five (λ (m : ℕ). turned ((m + 1) % 5) (stepOf n x k s r) ≡ stepFixed m n x k s (turned m r)) refl refl refl refl refl m h
 
 turned-five : (m a b c d e : ℕ) → m < 5 → turned m (named m (a ∷ b ∷ c ∷ d ∷ e ∷ [])) ≡ a ∷ b ∷ c ∷ d ∷ e ∷ []
 unfolding named
-turned-five zero a b c d e h = refl
-turned-five (suc zero) a b c d e h = refl
-turned-five (suc (suc zero)) a b c d e h = refl
-turned-five (suc (suc (suc zero))) a b c d e h = refl
-turned-five (suc (suc (suc (suc zero)))) a b c d e h = refl
-turned-five (suc (suc (suc (suc (suc m))))) a b c d e h = absurd (omega arith)
+turned-five m a b c d e h =
+    five (λ (m : ℕ). turned m (named m (a ∷ b ∷ c ∷ d ∷ e ∷ [])) ≡ a ∷ b ∷ c ∷ d ∷ e ∷ []) refl refl refl refl refl m h
 
 -- from the names to the places and back
 pub named-placed : (j : ℕ) (r : Registers) → named j (placed j r) ≡ r

@@ -40,13 +40,15 @@ placed j r = turned (j % 5) r
 unfoldable pub runOf : Line → List ℕ → ℕ → ℕ → List ℕ → List ℕ
 runOf l x j n v = placed (j + n) (stepsOf l x j n (named j v))
 
--- the same of both lines
+-- the registers of both lines under their names
 unfoldable pub namedPair : ℕ → Both → Pair
 namedPair j p = record { left = named j (p .left); right = named j (p .right) }
 
+-- and at their places
 unfoldable pub placedPair : ℕ → Pair → Both
 placedPair j q = record { left = placed j (q .left); right = placed j (q .right) }
 
+-- n steps of both lines from step j on, seen at the places
 unfoldable pub walkOf : List ℕ → ℕ → ℕ → Both → Both
 walkOf x j n p = placedPair (j + n) (pairSteps x j n (namedPair j p))
 

@@ -33,9 +33,11 @@ fedState s p =
     ((s .fill + length p) % 64)
     (asTail (drop (64 * wholeBlocks s p) (pending s p)))
 
+-- the number of feed: the state's fault, then 1 where the bytes would be 2^61 or more
 unfoldable pub feedNumber : State → List ℕ → ℕ
 feedNumber s p = first (found (faultOf s) ∷ (1 when leb (2 ^ 61) (takenOf s + length p)) ∷ [])
 
+-- what feed gives: a refused piece leaves the state as it was
 unfoldable pub feedOf : State → List ℕ → Fed
 feedOf s p = record { number = feedNumber s p; state = done (feedNumber s p) (fedState s p) s }
 

@@ -27,8 +27,8 @@ fn choose<'a>(tail: &'a [u8], piece: &'a [u8], fill: usize, i: usize) -> &'a [u8
     &piece[from..from + 64]
 }
 
-// The tail with n bytes of the piece, from from on, put at at.
-pub(crate) fn fill_up(tail: [u8; 64], at: usize, piece: &[u8], from: usize, n: usize) -> [u8; 64]
+// The tail with n bytes of the piece laid into it: those that start at `from` there, from `at` on here.
+fn fill_up(tail: [u8; 64], at: usize, piece: &[u8], from: usize, n: usize) -> [u8; 64]
     requires { ⌜ (at + n ≤ 64) × (from + n ≤ length (now piece)) ⌝ }
     ensures { λ r. ⌜ r ≡ take at tail ++ take n (drop from (now (piece .entry))) ++ drop (at + n) tail ⌝ }
 {

@@ -18,10 +18,12 @@ use Rattle.ripemd.specs.declared.BlockCount.{BlockCount}
 unfoldable pub widthOf : ℕ → Width
 widthOf b = cond (eqb (b % 2) 0) W160 W320
 
+-- the number that stands for a width
 unfoldable pub widthNumber : Width → ℕ
 widthNumber W160 = 0
 widthNumber W320 = 1
 
+-- the state that an image is
 unfoldable pub stateOf : List ℕ → State
 stateOf i =
     record {
@@ -32,6 +34,7 @@ stateOf i =
       tail = take 64 (drop 64 i);
     }
 
+-- the image of a state
 unfoldable pub imageOf : State → List ℕ
 imageOf s = bytesOf 8 (widthNumber (s .width)) ++ bytesOf 8 (s .count .0) ++ bytesOf 8 (s .fill) ++ wordBytes (s .words) ++ s .tail
 
