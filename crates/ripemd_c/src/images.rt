@@ -1,7 +1,6 @@
 // A state as its image, and back.
 ghost use mathlib.Core.Path.{_≡_};
 ghost use lib.ListN.{length};
-ghost use Rattle.words.specs.Bytes.{wordsOf};
 ghost use Rattle.ripemd_c.specs.Image.{widthOf, widthNumber, stateOf, imageOf};
 use ripemd::BlockCount;
 use ripemd::State;
@@ -21,19 +20,6 @@ fn number(w: Width) -> u64
         Width::W160 => 0,
         Width::W320 => 1,
     }
-}
-
-fn ten_words(s: &[u8]) -> [u32; 10]
-    requires { ⌜ length (now s) ≡ 40 ⌝ }
-    ensures { λ r. ⌜ r ≡ wordsOf 10 (now (s .entry)) ⌝ }
-{
-    let mut x = [0u32; 10];
-    let mut i = 0;
-    while i < 10 {
-        x[i] = words::bytes::get(s, 4 * i, 4) as u32;
-        i += 1;
-    }
-    x
 }
 
 fn tail_bytes(s: &[u8]) -> [u8; 64]
@@ -56,7 +42,7 @@ fn read(image: &[u8]) -> State
     let w = width(image[0]);
     let count = words::bytes::get(image, 8, 8);
     let fill = words::bytes::get(image, 16, 8);
-    let h = ten_words(&image[24..64]);
+    let h = words::bytes::get_words(&image[24..64], 10);
     let t = tail_bytes(&image[64..128]);
     State {
         width: w,

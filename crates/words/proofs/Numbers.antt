@@ -7,9 +7,8 @@ use native.Mathlib.Omega.{arith}
 use native.Mathlib.Nat.{div-lt-iff-lt-mul, pow-suc, pow-le-pow-right}
 use native.Mathlib.Numerals.{add-one}
 use lib.Dec.{lit<}
-use lib.ListN.{length, getD, take, drop, set, length-append, length-take, length-drop}
-use lib.Seq.{drop-drop, getD-take, getD-drop, drop-cons, take-suc, take-at, drop-at, length-take-le, take-add, ext-getD, getD-set-same, getD-set-other}
-use borrow.Author.Count.{below-more}
+use lib.ListN.{length, getD, take, drop, replicate, set, length-append, length-take, length-drop}
+use lib.Seq.{drop-drop, getD-take, getD-drop, drop-cons, take-suc, take-at, drop-at, length-take-le, take-add, set-at, append-snoc}
 use Rattle.words.specs.Bytes.{bytesOf, numberOf, wordBytes, wordsOf, Below}
 
 -- ---- how long
@@ -56,7 +55,7 @@ pow-room x m h b = let p : 256 ^ m ≤ 256 ^ 7 = pow-le-pow-right (lit< tt) h in
 pub pow-more : (x b m : ℕ) → b < 256 → x < 256 ^ m → x * 256 + b < 256 ^ suc m
 pow-more x b m hb h = rw (pow-suc 256 m) (omega arith)
 
--- ---- one word more, for `put_words` and `message_words`
+-- ---- one word more, for `put_words`
 words-snoc : (ws : List ℕ) (w : ℕ) → wordBytes (ws ++ (w ∷ [])) ≡ wordBytes ws ++ bytesOf 4 w
 words-snoc [] w = append-nil (bytesOf 4 w)
 words-snoc (v ∷ ws) w =
@@ -88,23 +87,25 @@ module _ (out : List ℕ) (i w : ℕ) (hl : 4 * i + 4 ≤ length out) where
       ∙ drop-drop 4 (4 * i) rest
       ∙ ap (λ (m : ℕ). drop m rest) k
 
-word-at : (n : ℕ) (l : List ℕ) (k : ℕ) → k < n → getD (wordsOf n l) k 0 ≡ numberOf (take 4 (drop (4 * k) l))
-word-at zero l k h = absurd (omega arith)
-word-at (suc n) l zero h = refl
-word-at (suc n) l (suc k) h =
-    let e : 4 + 4 * k ≡ 4 * suc k = omega arith in
-    word-at n (drop 4 l) k (omega arith) ∙ rw (drop-drop (4 * k) 4 l, e)
+-- ---- one word more, for `get_words` and `message_words`
+words-more : (n : ℕ) (l : List ℕ) → wordsOf (suc n) l ≡ wordsOf n l ++ (numberOf (take 4 (drop (4 * n) l)) ∷ [])
+words-more zero l = refl
+words-more (suc n) l =
+    let e : 4 + 4 * n ≡ 4 * suc n = omega arith in
+    ap (λ (r : List ℕ). numberOf (take 4 l) ∷ r)
+    (words-more n (drop 4 l)
+    ∙ ap (λ (r : List ℕ). wordsOf n (drop 4 l) ++ (numberOf (take 4 r) ∷ [])) (drop-drop (4 * n) 4 l ∙ ap (λ (k : ℕ). drop k l) e))
 
-pub filled-more : (m x : List ℕ) (i : ℕ) → i < length x → ((k : ℕ) → k < i → getD x k 0 ≡ numberOf (take 4 (drop (4 * k) m)))
-    → (k : ℕ) → k < i + 1 → getD (set x i (numberOf (take 4 (drop (4 * i) m)))) k 0 ≡ numberOf (take 4 (drop (4 * k) m))
-filled-more m x i hi h =
-    below-more (λ (k : ℕ). getD (set x i (numberOf (take 4 (drop (4 * i) m)))) k 0 ≡ numberOf (take 4 (drop (4 * k) m))) i
-    (λ k l. getD-set-other x i k (numberOf (take 4 (drop (4 * i) m))) 0 (omega arith) ∙ h k l)
-    (getD-set-same x i (numberOf (take 4 (drop (4 * i) m))) 0 hi)
-
-pub filled-all : (n : ℕ) (m x : List ℕ) → length x ≡ n → ((k : ℕ) → k < n → getD x k 0 ≡ numberOf (take 4 (drop (4 * k) m))) → x ≡ wordsOf n m
-filled-all n m x e h =
-    ext-getD 0 x (wordsOf n m) (e ∙ sym (length-words n m)) (λ k l. let g : k < n = omega arith in h k g ∙ sym (word-at n m k g))
+-- in room for m words, the first i of which are read
+pub word-read : (m : ℕ) (l : List ℕ) (i v : ℕ) → i < m → v ≡ numberOf (take 4 (drop (4 * i) l))
+    → set (wordsOf i l ++ replicate (m - i) 0) i v ≡ wordsOf (i + 1) l ++ replicate (m - (i + 1)) 0
+word-read m l i v h e =
+    let k : m - i ≡ suc (m - (i + 1)) = omega arith in
+    ap (λ (n : ℕ). set (wordsOf i l ++ replicate n 0) i v) k
+    ∙ set-at (wordsOf i l) 0 (replicate (m - (i + 1)) 0) v i (length-words i l)
+    ∙ sym (append-snoc (wordsOf i l) v (replicate (m - (i + 1)) 0))
+    ∙ ap (λ (r : List ℕ). r ++ replicate (m - (i + 1)) 0)
+    (ap (λ (w : ℕ). wordsOf i l ++ (w ∷ [])) e ∙ sym (words-more i l) ∙ ap (λ (n : ℕ). wordsOf n l) (sym (add-one i)))
 
 -- ---- there and back again
 pub number-bytes : (n x : ℕ) → x < 256 ^ n → numberOf (bytesOf n x) ≡ x

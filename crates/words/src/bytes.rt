@@ -1,8 +1,8 @@
 // Numbers and words as bytes, low byte first.
 ghost use mathlib.Core.Path.{_≡_};
 ghost use mathlib.Core.List.{_++_};
-ghost use Prim.Native.Nat.{_+_, _*_, _^_, _≤_, _<_};
-ghost use lib.ListN.{length, take, drop};
+ghost use Prim.Native.Nat.{_+_, _-_, _*_, _^_, _≤_, _<_};
+ghost use lib.ListN.{length, take, drop, replicate};
 ghost use Rattle.words.specs.Bytes.{bytesOf, numberOf, wordBytes, wordsOf};
 
 // The number that n bytes of s are, from at on.
@@ -28,6 +28,20 @@ pub fn message_words(block: &[u8]) -> [u32; 16]
     let mut i = 0;
     while i < 16 {
         x[i] = get(block, 4 * i, 4) as u32;
+        i += 1;
+    }
+    x
+}
+
+// The first n words of s, and zeros behind them.
+pub fn get_words(s: &[u8], n: usize) -> [u32; 10]
+    requires { ⌜ (n ≤ 10) × (4 * n ≤ length (now s)) ⌝ }
+    ensures { λ r. ⌜ r ≡ wordsOf n (now (s .entry)) ++ replicate (10 - n) 0 ⌝ }
+{
+    let mut x = [0u32; 10];
+    let mut i = 0;
+    while i < n {
+        x[i] = get(s, 4 * i, 4) as u32;
         i += 1;
     }
     x

@@ -1,7 +1,6 @@
 -- `ripemd_c::ripemd_fresh160` meets its contract.
 -- Assumes nothing.
 use borrow.Author.Needs.{needs}
-use borrow.Author.Needs.{needs}
 use Rattle.ripemd_c.proofs.ripemd_fresh160.Statement.{statement}
 use Rattle.ripemd_c.proofs.ripemd_fresh160.Tie as tie
 

@@ -1,7 +1,6 @@
 -- `ripemd_c::ripemd_fresh320` meets its contract.
 -- Assumes nothing.
 use borrow.Author.Needs.{needs}
-use borrow.Author.Needs.{needs}
 use Rattle.ripemd_c.proofs.ripemd_fresh320.Statement.{statement}
 use Rattle.ripemd_c.proofs.ripemd_fresh320.Tie as tie
 

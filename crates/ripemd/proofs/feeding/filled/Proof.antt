@@ -6,7 +6,6 @@ use borrow.Author.Tests.{le-ltb}
 use borrow.Author.Needs.{needs}
 use native.Mathlib.Omega.{arith}
 use Rattle.ripemd.proofs.Pending.{filled-up}
-use borrow.Author.Needs.{needs}
 use Rattle.ripemd.proofs.feeding.filled.Statement.{statement}
 use Rattle.ripemd.proofs.feeding.filled.Tie as tie
 

@@ -9,7 +9,6 @@ use borrow.Author.Needs.{needs}
 use Rattle.compress.specs.Block.{blocksOf}
 use Rattle.ripemd.proofs.Well.{well}
 use Rattle.ripemd.proofs.Pending.{filled-keeps, filled-full, fed-short, fed-long}
-use borrow.Author.Needs.{needs}
 use Rattle.ripemd.proofs.feeding.take_in.Statement.{statement}
 use Rattle.ripemd.proofs.feeding.take_in.Tie as tie
 

@@ -1,24 +1,25 @@
--- `words::bytes::message_words` meets its contract: the words below i are in place.
+-- `words::bytes::message_words` meets its contract: the first i words are read.
 -- Assumes nothing.
-use mathlib.Core.Path.{_≡_, refl, _∙_}
-use Prim.Native.Nat.{ℕ, _*_, _-_, _≤_, _<_}
+use mathlib.Core.Path.{_≡_, refl, ap, _∙_}
+use mathlib.Core.List.{_++_, append-nil}
+use Prim.Native.Nat.{ℕ, _-_, _≤_}
 use native.Mathlib.Omega.{arith}
 use borrow.Author.Needs.{needs}
-use lib.ListN.{length, getD, take, drop, length-set}
-use Rattle.words.specs.Bytes.{numberOf}
-use Rattle.words.proofs.Numbers.{filled-more, filled-all}
+use lib.ListN.{replicate}
+use Rattle.words.specs.Bytes.{wordsOf}
+use Rattle.words.proofs.Numbers.{word-read}
 use Rattle.words.proofs.bytes.message_words.Statement.{statement}
 use Rattle.words.proofs.bytes.message_words.Tie as tie
 
 abbrev Inv-loop : tie.InvT-loop
 Inv-loop block x₀ i₀ x i =
-    (i ≤ 16) × ((length x ≡ 16) × ((k : ℕ) → k < i → getD x k 0 ≡ numberOf (take 4 (drop (4 * k) block))))
+    (i ≤ 16) × (x ≡ wordsOf i block ++ replicate (16 - i) 0)
 
 abbrev μ-loop : tie.MeasureT-loop
 μ-loop block x₀ i₀ x i = 16 - i
 
 loop-holds : tie.Need-loop-holds Inv-loop μ-loop
-loop-holds c = (omega arith, (refl, λ k l. absurd (omega arith)))
+loop-holds c = (omega arith, refl)
 
 mul-get : tie.Need-mul-get Inv-loop μ-loop
 mul-get c = search needs
@@ -44,15 +45,14 @@ loop-less c = search needs
 loop-again : tie.Need-loop-again Inv-loop μ-loop
 loop-again c =
     let t = c .before .before in
-    let m = t .before .before .args .block .now in
-    let b : t .loop .i < length (t .loop .x) = omega arith in
-    rw (c .get .ensures .0)
-    (omega arith, (length-set (t .loop .x) (t .loop .i) _ ∙ t .loop .inv .1 .0, filled-more m (t .loop .x) (t .loop .i) b (t .loop .inv .1 .1)))
+    (omega arith, rw (t .loop .inv .1) (word-read 16 (t .before .before .args .block .now) (t .loop .i) (c .get .result) (omega arith) (c .get .ensures .0)))
 
 returns : tie.Need-returns Inv-loop μ-loop
 returns c =
     let t = c .before in
-    filled-all 16 _ _ (t .loop .inv .1 .0) (λ k l. t .loop .inv .1 .1 k (omega arith))
+    let m = t .before .before .args .block .now in
+    let e : t .loop .i ≡ 16 = omega arith in
+    t .loop .inv .1 ∙ ap (λ (k : ℕ). wordsOf k m ++ replicate (16 - k) 0) e ∙ append-nil (wordsOf 16 m)
 
 pub message-words-spec : {M : Type 1} → statement M
 message-words-spec =
