@@ -116,7 +116,7 @@ fn main() {
         for n in [0, 16, 64, 200] {
             rows.extend(race(turns, format!("one_shot of {n} bytes"), width, &message[..n], 1.0, vec![("Rust crate", rust(width)), ("this library", ours(width))]));
         }
-        for n in [1, 7, 64, 4096] {
+        for n in [1, 7, 32, 64, 4096] {
             let whole = &message[..16384 / n * n];
             let engines = vec![("Rust crate", in_pieces(width, n, false)), ("this library", in_pieces(width, n, true))];
             rows.extend(race(turns, format!("feed of {n} bytes"), width, whole, (whole.len() / n) as f64, engines));
