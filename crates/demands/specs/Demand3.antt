@@ -74,8 +74,7 @@ took s p k z = by-test (leb (2 ^ 61) (takenOf s + length p)) refl
 -- feeding nothing changes nothing
 fed-none : (s : State) → Sound s → fedState s [] ≡ s
 fed-none s k =
-    let z : (s .fill + 0) / 64 ≡ 0 = omega (arith, k .well .fill) in
-    sym (fed-short s [] (k .tail) (k .well .fill) (k .well .tail) z)
+    sym (fed-short s [] (k .tail) (k .well .fill) (k .well .tail) (omega (arith, k .well .fill)))
     ∙ ap (λ (f : ℕ). moved s (s .words) (s .count .0) f (paste (s .tail) (s .fill) [] 0)) (add-zero (s .fill))
     ∙ ap (moved s (s .words) (s .count .0) (s .fill)) (sym (paste-zero (s .tail) (s .fill) []))
 

@@ -5,8 +5,8 @@ use mathlib.Core.Path.{_≡_, refl, ap, sym, _∙_}
 use mathlib.Core.List.{List}
 use mathlib.Core.Bool.{Bool, true, false, cond, not}
 use native.Mathlib.Omega.{arith}
-use borrow.Author.Tests.{eq-eqb, ne-eqb, eqb-true, eqb-false, le-leb, lt-leb, leb-false}
-use lib.Dec.{eqb, leb}
+use borrow.Author.Tests.{eq-eqb, ne-eqb, eqb-true, eqb-false, le-leb, lt-leb}
+use lib.Dec.{eqb}
 use lib.ListN.{length}
 use Rattle.compress.specs.Block.{initialOf}
 use Rattle.compress.specs.declared.Width.{Width}
@@ -16,7 +16,6 @@ use Rattle.ripemd.specs.Digest.{digestLength, digestFrom, published}
 use Rattle.ripemd.specs.Finish.{digestOf, finishNumber, finishBytes, oneShotNumber, oneShotBytes}
 use Rattle.ripemd.specs.Record.{recordLength, exportNumber}
 use Rattle.ripemd.specs.declared.State.{State}
-use Rattle.ripemd.specs.declared.Fed.{Fed}
 use Rattle.ripemd.proofs.Well.{no-fault}
 use Rattle.ripemd.proofs.Outcomes.{accepted}
 use Rattle.ripemd.proofs.Ends.{digest-from}
@@ -43,52 +42,39 @@ module _ (s : State) (z : faultOf s ≡ 0) where
   unfolding exportNumber
   export-part n e f = rw (z, eq-eqb n (recordLength (s .width)) e, ne-eqb (s .fill) 0 f)
 
--- the one-shot call: a fresh state, fed and finished
-module _ (w : Width) (m o : List ℕ) (l : length o ≡ digestLength w) where
-  fresh-fine : faultOf (freshOf w) ≡ 0
-  fresh-fine = no-fault (freshOf w) (fresh-sound w .well)
+pub fresh-fine : (w : Width) → faultOf (freshOf w) ≡ 0
+fresh-fine w = no-fault (freshOf w) (fresh-sound w .well)
 
-  pub shot-number : feedOf (freshOf w) m .number ≡ oneShotNumber w (length m) (length o)
-  unfolding feedOf feedNumber oneShotNumber
-  shot-number =
-      let t : takenOf (freshOf w) + length m ≡ length m = omega arith in
-      rw (fresh-fine, t, eq-eqb (length o) (digestLength w) l)
+-- a message under 2^61 bytes: a fresh state that was fed it ends in the published digest
+module _ (w : Width) (m : List ℕ) (short : length m < 2 ^ 61) where
+  pub fed-fine : faultOf (fedState (freshOf w) m) ≡ 0
+  fed-fine = no-fault (fedState (freshOf w) m) (fed-sound (freshOf w) m (fresh-sound w) (omega (arith, short)) .well)
 
-  module _ (z : feedOf (freshOf w) m .number ≡ 0) where
-    short : length m < 2 ^ 61
+  pub fed-length : digestLength (fedState (freshOf w) m .width) ≡ digestLength w
+  unfolding fedState
+  fed-length = refl
+
+  pub fed-ends : digestOf (fedState (freshOf w) m) ≡ published w m
+  fed-ends =
+      let e : 64 * 0 + length m ≡ length m = omega arith in
+      digest-from w (initialOf w) 0 m ∙ ap (λ (n : ℕ). digestFrom w (initialOf w) n m) e
+
+  -- finish gives it, and so does one_shot
+  module _ (o : List ℕ) (l : length o ≡ digestLength w) where
+    pub fed-number : finishNumber (fedState (freshOf w) m) (length o) ≡ 0
+    fed-number = finish-right (fedState (freshOf w) m) fed-fine (length o) (l ∙ sym fed-length)
+
+    pub fed-bytes : finishBytes (fedState (freshOf w) m) o ≡ published w m
+    unfolding finishBytes
+    fed-bytes = accepted (finishNumber (fedState (freshOf w) m) (length o)) (digestOf (fedState (freshOf w) m)) o fed-number ∙ fed-ends
+
+    pub shot-number : oneShotNumber w (length m) (length o) ≡ 0
     unfolding oneShotNumber
-    short = by-test (leb (2 ^ 61) (length m)) refl (sym shot-number ∙ z)
-      where
-        by-test : (b : Bool) → leb (2 ^ 61) (length m) ≡ b → oneShotNumber w (length m) (length o) ≡ 0 → length m < 2 ^ 61
-        by-test true e q =
-            absurd (let k : _≡_ {A = ℕ} 1 0 = sym (rw (eq-eqb (length o) (digestLength w) l, e)) ∙ q in omega arith)
-        by-test false e q = leb-false (2 ^ 61) (length m) e
+    shot-number = rw (eq-eqb (length o) (digestLength w) l, lt-leb (2 ^ 61) (length m) short)
 
-    is-fed : feedOf (freshOf w) m .state ≡ fedState (freshOf w) m
-    is-fed = ap (λ (f : Fed). f .state) (feed-takes (freshOf w) fresh-fine m (omega (arith, short)))
-
-    fed-fine : faultOf (fedState (freshOf w) m) ≡ 0
-    fed-fine = no-fault (fedState (freshOf w) m) (fed-sound (freshOf w) m (fresh-sound w) (omega (arith, short)) .well)
-
-    fed-width : fedState (freshOf w) m .width ≡ w
-    unfolding fedState
-    fed-width = refl
-
-    finished : finishNumber (fedState (freshOf w) m) (length o) ≡ 0
-    finished = finish-right (fedState (freshOf w) m) fed-fine (length o) (l ∙ ap digestLength (sym fed-width))
-
-    pub shot-done : (finishNumber (feedOf (freshOf w) m .state) (length o) ≡ oneShotNumber w (length m) (length o))
-        × (finishBytes (feedOf (freshOf w) m .state) o ≡ oneShotBytes w m o)
-    unfolding finishBytes oneShotBytes
-    shot-done =
-        let e : 64 * 0 + length m ≡ length m = omega arith in
-        rw is-fed (
-          finished ∙ sym z ∙ shot-number,
-          accepted (finishNumber (fedState (freshOf w) m) (length o)) (digestOf (fedState (freshOf w) m)) o finished
-              ∙ digest-from w (initialOf w) 0 m
-              ∙ ap (λ (n : ℕ). digestFrom w (initialOf w) n m) e
-              ∙ sym (accepted (oneShotNumber w (length m) (length o)) (published w m) o (sym shot-number ∙ z)),
-        )
+    pub shot-bytes : oneShotBytes w m o ≡ published w m
+    unfolding oneShotBytes
+    shot-bytes = accepted (oneShotNumber w (length m) (length o)) (published w m) o shot-number
 
 -- an export that is done has nothing pending
 pub export-full : (s : State) (n : ℕ) → exportNumber s n ≡ 0 → s .fill ≡ 0

@@ -1,21 +1,37 @@
 -- `ripemd::whole::one_shot` meets its contract.
 -- Assumes nothing.
 use mathlib.Core.Path.{_≡_, sym, ap, _∙_}
+use Prim.Native.Nat.{_^_, _<_}
 use native.Mathlib.Omega.{arith}
-use borrow.Author.Tests.{ne-eqb}
+use borrow.Author.Tests.{eq-eqb, ne-eqb, leb-false}
 use lib.ListN.{length}
 use Rattle.ripemd.specs.State.{freshOf}
-use Rattle.ripemd.specs.Feed.{feedOf}
+use Rattle.ripemd.specs.Feed.{fedState}
 use Rattle.ripemd.specs.Digest.{digestLength, published}
-use Rattle.ripemd.specs.Finish.{finishNumber, finishBytes, oneShotNumber, oneShotBytes}
-use Rattle.ripemd.specs.declared.Fed.{Fed}
+use Rattle.ripemd.specs.Finish.{digestOf, oneShotNumber, oneShotBytes}
 use Rattle.ripemd.specs.declared.State.{State}
 use Rattle.ripemd.proofs.Well.{used-le}
 use Rattle.ripemd.proofs.Outcomes.{refused}
-use Rattle.ripemd.proofs.Calls.{shot-number, shot-done}
+use Rattle.ripemd.proofs.Calls.{fresh-fine, fed-fine, fed-length, fed-ends, shot-number, shot-bytes}
 use borrow.Author.Needs.{needs}
 use Rattle.ripemd.proofs.whole.one_shot.Statement.{statement}
 use Rattle.ripemd.proofs.whole.one_shot.Tie as tie
+
+-- past the first refusal the output has the digest's length
+wide : (c : tie.Else1) → let a = c .before .before .before .before .args in length (a .out .now) ≡ digestLength (a .w)
+wide c = omega (arith, c .before .used .ensures, c .if1 .left)
+
+-- past the second the message is short enough
+short : (c : tie.Else2) → length (c .before .before .before .before .before .before .args .message .now) < 2 ^ 61
+short c =
+    leb-false (2 ^ 61) (length (c .before .before .before .before .before .before .args .message .now)) (sym (c .before .too-long .ensures) ∙ c .if2 .left)
+
+-- the state that is finished
+fed : (c : tie.After-take-in) → let a = c .before .before .before .before .before .before .before .before .args in
+    c .take-in .result ≡ fedState (freshOf (a .w)) (a .message .now)
+fed c =
+    let a = c .before .before .before .before .before .before .before .before .args in
+    c .take-in .ensures ∙ ap (λ (s : State). fedState s (a .message .now)) (c .before .fresh .ensures)
 
 used-requires : tie.Need-used-requires
 used-requires c κs = search needs
@@ -32,25 +48,32 @@ returns c =
     in
     (e, sym (refused _ (published (a .w) (a .message .now)) (a .out .now) (λ q. omega (arith, e ∙ q))))
 
-fresh-requires : tie.Need-fresh-requires
-fresh-requires c κs = search needs
-
-feed-requires : tie.Need-feed-requires
-feed-requires c κs = search needs
+too-long-requires : tie.Need-too-long-requires
+too-long-requires c κs = search needs
 
 returns-2 : tie.Need-returns-2
 unfolding oneShotNumber oneShotBytes
 returns-2 c =
-    let a = c .before .before .before .before .before .before .before .args in
-    let l : length (a .out .now) ≡ digestLength (a .w) = omega (arith, c .before .before .before .before .used .ensures, c .before .before .before .if1 .left) in
-    let f : c .before .feed .result ≡ feedOf (freshOf (a .w)) (a .message .now) = c .before .feed .ensures ∙ ap (λ (s : State). feedOf s (a .message .now)) (c .before .before .fresh .ensures) in
-    let e : c .before .feed .result .number ≡ oneShotNumber (a .w) (length (a .message .now)) (length (a .out .now)) =
-    ap (λ (x : Fed). x .number) f ∙ shot-number (a .w) (a .message .now) (a .out .now) l
+    let a = c .before .before .before .before .before .before .args in
+    let e : 1 ≡ oneShotNumber (a .w) (length (a .message .now)) (length (a .out .now)) =
+    simp (eq-eqb (length (a .out .now)) (digestLength (a .w)) (wide (c .before .before)), sym (c .before .too-long .ensures), c .if2 .taken)
     in
-    (e, sym (refused _ (published (a .w) (a .message .now)) (a .out .now) (λ q. c .if2 .taken (e ∙ q))))
+    (e, sym (refused _ (published (a .w) (a .message .now)) (a .out .now) (λ q. omega (arith, e ∙ q))))
 
-finish-requires : tie.Need-finish-requires
-finish-requires c κs = search needs
+fresh-requires : tie.Need-fresh-requires
+fresh-requires c κs = search needs
+
+take-in-requires : tie.Need-take-in-requires
+take-in-requires c κs =
+    let a = c .before .before .before .before .before .before .before .args in
+    rw (c .fresh .ensures) (fresh-fine (a .w), omega (arith, short (c .before)), λ h. omega arith)
+
+put-digest-requires : tie.Need-put-digest-requires
+put-digest-requires c κs =
+    let a = c .before .before .before .before .before .before .before .before .before .args in
+    let m = a .message .now in
+    rw (fed (c .before))
+    (fed-fine (a .w) m (short (c .before .before .before)), wide (c .before .before .before .before .before) ∙ sym (fed-length (a .w) m (short (c .before .before .before))))
 
 same-length : tie.Need-same-length
 same-length c = search needs
@@ -58,11 +81,12 @@ same-length c = search needs
 returns-3 : tie.Need-returns-3
 returns-3 c =
     let a = c .before .before .before .before .before .before .before .before .before .before .before .before .args in
-    let l : length (a .out .now) ≡ digestLength (a .w) = omega (arith, c .before .before .before .before .before .before .before .before .before .used .ensures, c .before .before .before .before .before .before .before .before .if1 .left) in
-    let f : c .before .before .before .before .before .before .feed .result ≡ feedOf (freshOf (a .w)) (a .message .now) = c .before .before .before .before .before .before .feed .ensures ∙ ap (λ (s : State). feedOf s (a .message .now)) (c .before .before .before .before .before .before .before .fresh .ensures) in
-    let d = shot-done (a .w) (a .message .now) (a .out .now) l (sym (ap (λ (x : Fed). x .number) f) ∙ c .before .before .before .before .before .if2 .left) in (
-      c .before .before .finish .ensures .0 ∙ ap (λ (x : Fed). finishNumber (x .state) (length (a .out .now))) f ∙ d .0,
-      c .before .before .finish .ensures .1 ∙ ap (λ (x : Fed). finishBytes (x .state) (a .out .now)) f ∙ d .1,
+    let m = a .message .now in
+    let o = a .out .now in
+    let h = short (c .before .before .before .before .before .before) in
+    let l = wide (c .before .before .before .before .before .before .before .before) in (
+      sym (shot-number (a .w) m h o l),
+      c .before .before .put-digest .ensures ∙ ap digestOf (fed (c .before .before .before .before)) ∙ fed-ends (a .w) m h ∙ sym (shot-bytes (a .w) m h o l),
     )
 
 pub one-shot-spec : {M : Type 1} → statement M
@@ -72,9 +96,10 @@ one-shot-spec =
     used-requires
     mul-if1
     returns
-    fresh-requires
-    feed-requires
+    too-long-requires
     returns-2
-    finish-requires
+    fresh-requires
+    take-in-requires
+    put-digest-requires
     same-length
     returns-3)
