@@ -5,7 +5,7 @@ use Prim.Native.Nat.{_^_, _<_}
 use native.Mathlib.Omega.{arith}
 use borrow.Author.Tests.{eq-eqb, ne-eqb, leb-false}
 use lib.ListN.{length}
-use Rattle.ripemd.specs.State.{freshOf}
+use Rattle.ripemd.specs.State.{faultOf, freshOf}
 use Rattle.ripemd.specs.Feed.{fedState}
 use Rattle.ripemd.specs.Digest.{digestLength, published}
 use Rattle.ripemd.specs.Finish.{digestOf, oneShotNumber, oneShotBytes}
@@ -72,8 +72,9 @@ put-digest-requires : tie.Need-put-digest-requires
 put-digest-requires c κs =
     let a = c .before .before .before .before .before .before .before .before .before .args in
     let m = a .message .now in
-    rw (fed (c .before))
-    (fed-fine (a .w) m (short (c .before .before .before)), wide (c .before .before .before .before .before) ∙ sym (fed-length (a .w) m (short (c .before .before .before))))
+    let h = short (c .before .before .before) in
+    let e = fed (c .before) in
+    (ap faultOf e ∙ fed-fine (a .w) m h, wide (c .before .before .before .before .before) ∙ sym (ap (λ (s : State). digestLength (s .width)) e ∙ fed-length (a .w) m h))
 
 same-length : tie.Need-same-length
 same-length c = search needs
