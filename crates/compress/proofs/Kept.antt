@@ -3,7 +3,7 @@
 use mathlib.Core.Path.{_≡_, refl}
 use mathlib.Core.List.{List}
 use Prim.Native.Nat.{ℕ, zero, suc, _-_, _*_, _^_}
-use native.Mathlib.Omega.{arith}
+use borrow.Author.Needs.{needs}
 use lib.ListN.{length, take, drop, replicate}
 use Rattle.words.specs.Bytes.{wordsOf, Below}
 use Rattle.compress.specs.Block.{usedOf, combineOf, compressOf, blocksOf}
@@ -18,18 +18,8 @@ pub record Chaining (w : Width) (h : List ℕ) : Type 0 where
 
 pub compress-chaining : (w : Width) (h x : List ℕ) → Chaining w (compressOf w h x)
 unfolding compressOf combineOf
-compress-chaining W160 h x =
-    record {
-      long = refl;
-      below = (omega arith, (omega arith, (omega arith, (omega arith, (omega arith, (omega arith, (omega arith, (omega arith, (omega arith, (omega arith, tt))))))))));
-      spare = refl;
-    }
-compress-chaining W320 h x =
-    record {
-      long = refl;
-      below = (omega arith, (omega arith, (omega arith, (omega arith, (omega arith, (omega arith, (omega arith, (omega arith, (omega arith, (omega arith, tt))))))))));
-      spare = refl;
-    }
+compress-chaining W160 h x = record { long = refl; below = search needs; spare = refl }
+compress-chaining W320 h x = record { long = refl; below = search needs; spare = refl }
 
 pub blocks-chaining : (w : Width) (h s : List ℕ) (n : ℕ) → Chaining w h → Chaining w (blocksOf w h s n)
 unfolding blocksOf

@@ -5,6 +5,7 @@ use mathlib.Core.Path.{_≡_, refl, sym, ap, _∙_}
 use mathlib.Core.List.{List, [], _∷_, _++_, append-assoc}
 use native.Mathlib.Omega.{arith}
 use borrow.Author.Tests.{eq-eqb, le-leb}
+use borrow.Author.Needs.{needs}
 use lib.Dec.{lit<, lit≤}
 use lib.ListN.{length, getD, take, drop, replicate, length-append, length-replicate}
 use lib.Seq.{drop-at}
@@ -121,7 +122,7 @@ pub table : (w : Width) (m ws : List ℕ) → length ws ≡ 4 * usedOf w → Bel
     × ((b : ℕ) → exportNumber (feedOf (freshOf W160) (b ∷ []) .state) 27 ≡ 3)  -- T13
 table w m ws l b =
     let t : Below 256 (ws ++ topCount) =
-    below-append ws topCount b (lit< tt, (lit< tt, (lit< tt, (lit< tt, (lit< tt, (lit< tt, (lit< tt, (lit< tt, tt))))))))
+    below-append ws topCount b (search needs)
     in (
       refl,
       refl,

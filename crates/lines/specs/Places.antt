@@ -5,7 +5,6 @@ use mathlib.Core.List.{List, [], _∷_}
 use Prim.Native.Nat.{ℕ, zero, suc, _+_, _*_, _%_}
 use lib.ListN.{getD, set}
 use Rattle.tables.specs.declared.Line.{Line}
-use Rattle.tables.specs.declared.Line.the-variants.{Left, Right}
 use Rattle.lines.specs.Steps.{Registers, Pair, stepsOf, pairSteps}
 use Rattle.lines.specs.declared.Both.{Both}
 

@@ -14,7 +14,6 @@ use Rattle.compress.specs.declared.Width.the-variants.{W160, W320}
 use Rattle.ripemd.specs.Refusals.{done}
 use Rattle.ripemd.specs.Feed.{feedOf}
 use Rattle.ripemd.specs.declared.State.{State}
-use Rattle.ripemd.specs.declared.BlockCount.{BlockCount}
 use Rattle.ripemd.proofs.Kept.{Sound}
 use Rattle.ripemd_c.specs.Image.{widthOf, widthNumber, stateOf, imageOf, fedImage}
 

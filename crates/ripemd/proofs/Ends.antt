@@ -19,8 +19,6 @@ use Rattle.ripemd.specs.Feed.{fedState}
 use Rattle.ripemd.specs.Digest.{paddingOf, digestFrom, continued}
 use Rattle.ripemd.specs.Finish.{padCount, padOf, paddedOf, lastOf, digestOf}
 use Rattle.ripemd.specs.declared.State.{State}
-use Rattle.ripemd.specs.declared.Padded.{Padded}
-use Rattle.ripemd.specs.declared.BlockCount.{BlockCount}
 use Rattle.ripemd.proofs.Zeros.{zeros-are, drop-replicate, take-zeros}
 
 -- the blocks have room for the mark and the length, and no more zeros than the paper's

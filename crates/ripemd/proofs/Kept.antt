@@ -6,6 +6,7 @@ use mathlib.Core.List.{List}
 use mathlib.Core.Bool.{true}
 use native.Mathlib.Omega.{arith}
 use lib.Dec.{lit<}
+use borrow.Author.Needs.{needs}
 use lib.ListN.{length, drop, replicate, length-append, length-drop, length-replicate}
 use lib.Seq.{drop-at}
 use Rattle.compress.specs.Block.{usedOf, initialOf, blocksOf}
@@ -15,7 +16,6 @@ use Rattle.compress.proofs.Kept.{Chaining, blocks-chaining}
 use Rattle.ripemd.specs.State.{zeros, takenOf, WellFormed, between, freshOf}
 use Rattle.ripemd.specs.Feed.{pending, wholeBlocks, fedState}
 use Rattle.ripemd.specs.declared.State.{State}
-use Rattle.ripemd.specs.declared.BlockCount.{BlockCount}
 use Rattle.ripemd.proofs.Zeros.{zeros-replicate}
 use Rattle.ripemd.proofs.Pending.{length-pending}
 
@@ -37,18 +37,8 @@ between-sound w h c l k =
     }
 
 initial-chaining : (w : Width) → Chaining w (initialOf w)
-initial-chaining W160 =
-    record {
-      long = refl;
-      below = (lit< tt, (lit< tt, (lit< tt, (lit< tt, (lit< tt, (lit< tt, (lit< tt, (lit< tt, (lit< tt, (lit< tt, tt))))))))));
-      spare = refl;
-    }
-initial-chaining W320 =
-    record {
-      long = refl;
-      below = (lit< tt, (lit< tt, (lit< tt, (lit< tt, (lit< tt, (lit< tt, (lit< tt, (lit< tt, (lit< tt, (lit< tt, tt))))))))));
-      spare = refl;
-    }
+initial-chaining W160 = record { long = refl; below = search needs; spare = refl }
+initial-chaining W320 = record { long = refl; below = search needs; spare = refl }
 
 pub fresh-sound : (w : Width) → Sound (freshOf w)
 fresh-sound w = between-sound w (initialOf w) 0 (lit< tt) (initial-chaining w)

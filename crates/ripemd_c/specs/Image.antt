@@ -12,7 +12,6 @@ use Rattle.compress.specs.declared.Width.the-variants.{W160, W320}
 use Rattle.ripemd.specs.Refusals.{done}
 use Rattle.ripemd.specs.Feed.{feedOf}
 use Rattle.ripemd.specs.declared.State.{State}
-use Rattle.ripemd.specs.declared.BlockCount.{BlockCount}
 
 -- the width that a byte stands for, read modulo 2
 unfoldable pub widthOf : ℕ → Width

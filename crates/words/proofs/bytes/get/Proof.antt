@@ -6,7 +6,6 @@ use lib.Dec.{lit<}
 use mathlib.Core.Path.{_≡_, _∙_, ap}
 use native.Mathlib.Omega.{arith}
 use lib.ListN.{take, drop, getD, length-take, drop-of-length-le}
-use borrow.Author.Needs.{needs}
 use Rattle.words.specs.Bytes.{numberOf}
 use Rattle.words.proofs.Numbers.{number-step, pow-room, pow-more}
 use Rattle.words.proofs.bytes.get.Statement.{statement}
