@@ -16,18 +16,17 @@ use Rattle.compress.specs.Block.{initialOf}
 use Rattle.compress.specs.declared.Width.{Width}
 use Rattle.ripemd.specs.State.{takenOf, faultOf, between, freshOf, moved}
 use Rattle.ripemd.specs.Feed.{fedState, feedOf}
-use Rattle.ripemd.specs.Digest.{digestLength, digestFrom, published, continued}
+use Rattle.ripemd.specs.Digest.{digestLength, published, continued}
 use Rattle.ripemd.specs.Finish.{digestOf, finishNumber, finishBytes}
 use Rattle.ripemd.specs.Record.{recordLength, recordOf, wordsIn, countIn, exportNumber, exportBytes, importOf}
 use Rattle.ripemd.specs.declared.State.{State}
 use Rattle.ripemd.specs.declared.Fed.{Fed}
 use Rattle.ripemd.specs.declared.Imported.{Imported}
-use Rattle.ripemd.proofs.Well.{no-fault}
 use Rattle.ripemd.proofs.Pending.{fed-short}
 use Rattle.ripemd.proofs.Cuts.{fed-twice}
 use Rattle.ripemd.proofs.Outcomes.{accepted}
-use Rattle.ripemd.proofs.Ends.{digest-from}
-use Rattle.ripemd.proofs.Kept.{Sound, fresh-sound, fed-sound, fed-taken}
+use Rattle.ripemd.proofs.Ends.{digest-from, from-nothing}
+use Rattle.ripemd.proofs.Kept.{Sound, sound-fine, fresh-sound, fed-width, fed-sound, fed-taken}
 use Rattle.ripemd.proofs.Calls.{feed-takes, feed-long, finish-right, export-right, export-part, export-full}
 use Rattle.ripemd.proofs.Resumed.{import-takes, import-sound, record-again, import-zero, import-export}
 use Rattle.demands.specs.Demand1.{feed-refused, export-refused}
@@ -54,9 +53,6 @@ record Held (s₀ : State) (m : List ℕ) (s : State) : Type 0 where
   width : s .width ≡ s₀ .width
   is : s ≡ fedState s₀ m
 
-fault-of : {s : State} → Sound s → faultOf s ≡ 0
-fault-of {s} k = no-fault s (k .well)
-
 -- a piece that is taken leaves the bytes below 2^61, and makes the state that feeding defines
 took : (s : State) (p : List ℕ) → Sound s → feedOf s p .number ≡ 0 → (takenOf s + length p < 2 ^ 61) × (feedOf s p .state ≡ fedState s p)
 took s p k z = by-test (leb (2 ^ 61) (takenOf s + length p)) refl
@@ -65,11 +61,11 @@ took s p k z = by-test (leb (2 ^ 61) (takenOf s + length p)) refl
     by-test true e =
         let l = leb-true (2 ^ 61) (takenOf s + length p) e in
         absurd
-        (let q : _≡_ {A = ℕ} 1 0 = sym (ap (λ (f : Fed). f .number) (feed-long s (fault-of k) p l)) ∙ z in
+        (let q : _≡_ {A = ℕ} 1 0 = sym (ap (λ (f : Fed). f .number) (feed-long s (sound-fine k) p l)) ∙ z in
         omega arith)
     by-test false e =
         let l = leb-false (2 ^ 61) (takenOf s + length p) e in
-        (l, ap (λ (f : Fed). f .state) (feed-takes s (fault-of k) p l))
+        (l, ap (λ (f : Fed). f .state) (feed-takes s (sound-fine k) p l))
 
 -- feeding nothing changes nothing
 fed-none : (s : State) → Sound s → fedState s [] ≡ s
@@ -77,10 +73,6 @@ fed-none s k =
     sym (fed-short s [] (k .tail) (k .well .fill) (k .well .tail) (omega (arith, k .well .fill)))
     ∙ ap (λ (f : ℕ). moved s (s .words) (s .count .0) f (paste (s .tail) (s .fill) [] 0)) (add-zero (s .fill))
     ∙ ap (moved s (s .words) (s .count .0) (s .fill)) (sym (paste-zero (s .tail) (s .fill) []))
-
-fed-width : (s : State) (p : List ℕ) → fedState s p .width ≡ s .width
-unfolding fedState
-fed-width s p = refl
 
 -- an export of a sound state that is done, imported again
 again : (s : State) (o : List ℕ) → Sound s → exportNumber s (length o) ≡ 0 → importOf (s .width) (exportBytes s o) ≡ record { number = 0; state = s }
@@ -135,13 +127,13 @@ module _ (w : Width) (h : List ℕ) (c : ℕ) (k₀ : Sound (between w h c)) {m 
       let f = k .sound .well .fill in
       let b = k .taken in
       let z = k .room in
-      (fault-of (k .sound), omega arith, omega arith, omega arith)
+      (sound-fine (k .sound), omega arith, omega arith, omega arith)
 
   -- finish is done, and gives the digest of the chain continued with the message
   pub chain-finish : (o : List ℕ) → length o ≡ digestLength w → (finishNumber s (length o) ≡ 0) × (finishBytes s o ≡ continued w h c m)
   unfolding finishBytes
   chain-finish o l =
-      let e = finish-right s (fault-of (k .sound)) (length o) (l ∙ ap digestLength (sym (k .width))) in
+      let e = finish-right s (sound-fine (k .sound)) (length o) (l ∙ ap digestLength (sym (k .width))) in
       (e, accepted (finishNumber s (length o)) (digestOf s) o e ∙ ap digestOf (k .is) ∙ digest-from w h c m)
 
   -- a piece is taken exactly while the bytes stay below 2^61; else the number is 1, and the state is handed back
@@ -150,8 +142,8 @@ module _ (w : Width) (h : List ℕ) (c : ℕ) (k₀ : Sound (between w h c)) {m 
       × (2 ^ 61 ≤ 64 * c + length m + length p → feedOf s p ≡ record { number = 1; state = s })
   chain-feed p =
       let b = k .taken in (
-        λ l. ap (λ (f : Fed). f .number) (feed-takes s (fault-of (k .sound)) p (omega arith)),
-        λ l. feed-long s (fault-of (k .sound)) p (omega arith),
+        λ l. ap (λ (f : Fed). f .number) (feed-takes s (sound-fine (k .sound)) p (omega arith)),
+        λ l. feed-long s (sound-fine (k .sound)) p (omega arith),
       )
 
   -- export is done exactly at a multiple of 64, and its import is the same state; else the number is 2, and no byte is written
@@ -162,10 +154,10 @@ module _ (w : Width) (h : List ℕ) (c : ℕ) (k₀ : Sound (between w h c)) {m 
       let f = chain-state .2 in
       let lw : length o ≡ recordLength (s .width) = l ∙ ap recordLength (sym (k .width)) in (
         λ z.
-            let e = export-right s (fault-of (k .sound)) (length o) lw (f ∙ z) in
+            let e = export-right s (sound-fine (k .sound)) (length o) lw (f ∙ z) in
             (e, ap (λ (v : Width). importOf v (exportBytes s o)) (sym (k .width)) ∙ again s o (k .sound) e),
         λ z.
-            let e = export-part s (fault-of (k .sound)) (length o) lw (λ q. z (sym f ∙ q)) in
+            let e = export-part s (sound-fine (k .sound)) (length o) lw (λ q. z (sym f ∙ q)) in
             (e, export-refused s o (λ q. omega (arith, sym e ∙ q))),
       )
 
@@ -180,8 +172,7 @@ module _ (w : Width) {m : List ℕ} {s : State} (r : Reach (freshOf w) m s) wher
   pub reached-finish : (o : List ℕ) → length o ≡ digestLength w → (finishNumber s (length o) ≡ 0) × (finishBytes s o ≡ published w m)
   reached-finish o l =
       let t = chain-finish w (initialOf w) 0 (fresh-sound w) r o l in
-      let z : 64 * 0 + length m ≡ length m = omega arith in
-      (t .0, t .1 ∙ ap (λ (n : ℕ). digestFrom w (initialOf w) n m) z)
+      (t .0, t .1 ∙ from-nothing w m)
 
   pub reached-feed : (p : List ℕ)
       → (length m + length p < 2 ^ 61 → feedOf s p .number ≡ 0)
@@ -238,7 +229,7 @@ module _ (w : Width) (r : List ℕ) (b : Below 256 r) (ok : importOf w r .number
   unfolding exportBytes
   record-same o lo =
       let t = between w (wordsIn w r) (countIn w r) in
-      let e = export-right t (fault-of (import-sound w r l c b)) (length o) lo refl in
+      let e = export-right t (sound-fine (import-sound w r l c b)) (length o) lo refl in
       rw is (e, accepted (exportNumber t (length o)) (recordOf t) o e ∙ record-again w r l c b)
 
   -- feeding and finishing continue the chain from its words, with the length counted from its count

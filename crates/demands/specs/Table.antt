@@ -24,9 +24,8 @@ use Rattle.ripemd.specs.Record.{recordLength, recordOf, wordsIn, countIn, expor
 use Rattle.ripemd.specs.declared.State.{State}
 use Rattle.ripemd.specs.declared.Fed.{Fed}
 use Rattle.ripemd.specs.declared.Imported.{Imported}
-use Rattle.ripemd.proofs.Well.{no-fault}
 use Rattle.ripemd.proofs.Calls.{feed-takes, feed-long}
-use Rattle.ripemd.proofs.Kept.{fresh-sound, fed-taken}
+use Rattle.ripemd.proofs.Kept.{sound-fine, fresh-sound, fed-taken}
 use Rattle.ripemd.proofs.Resumed.{import-takes, import-sound}
 
 -- the last eight bytes of what a fresh state that was fed m is padded to
@@ -81,7 +80,7 @@ module _ (w : Width) (ws cs : List ℕ) (l : length ws ≡ 4 * usedOf w) (l8 : l
     low-taken = ap (λ (i : Imported). takenOf (i .state)) count-low ∙ (omega (arith, count-is))
 
     low-fine : Below 256 (ws ++ cs) → faultOf (importOf w (ws ++ cs) .state) ≡ 0
-    low-fine b = rw count-low (no-fault _ (import-sound w (ws ++ cs) long (omega (arith, count-is)) b .well))
+    low-fine b = rw count-low (sound-fine (import-sound w (ws ++ cs) long (omega (arith, count-is)) b))
 
     -- fed p, while the bytes stay below 2^61 and where they don't
     fed-low : Below 256 (ws ++ cs) → (p : List ℕ) → 64 * numberOf (take 8 cs) + length p < 2 ^ 61 → feedOf (importOf w (ws ++ cs) .state) p .number ≡ 0
@@ -121,9 +120,7 @@ pub table : (w : Width) (m ws : List ℕ) → length ws ≡ 4 * usedOf w → Bel
     × ((getD first 0 0 ≡ 0x1602f864) × (getD first 2 0 ≡ 0xeb73fa62))  -- T12
     × ((b : ℕ) → exportNumber (feedOf (freshOf W160) (b ∷ []) .state) 27 ≡ 3)  -- T13
 table w m ws l b =
-    let t : Below 256 (ws ++ topCount) =
-    below-append ws topCount b (search needs)
-    in (
+    let t : Below 256 (ws ++ topCount) = below-append ws topCount b (search needs) in (
       refl,
       refl,
       refl,

@@ -13,9 +13,10 @@ use Rattle.compress.specs.Block.{usedOf, initialOf, blocksOf}
 use Rattle.compress.specs.declared.Width.{Width}
 use Rattle.compress.specs.declared.Width.the-variants.{W160, W320}
 use Rattle.compress.proofs.Kept.{Chaining, blocks-chaining}
-use Rattle.ripemd.specs.State.{zeros, takenOf, WellFormed, between, freshOf}
+use Rattle.ripemd.specs.State.{zeros, takenOf, WellFormed, faultOf, between, freshOf}
 use Rattle.ripemd.specs.Feed.{pending, wholeBlocks, fedState}
 use Rattle.ripemd.specs.declared.State.{State}
+use Rattle.ripemd.proofs.Well.{no-fault}
 use Rattle.ripemd.proofs.Zeros.{zeros-replicate}
 use Rattle.ripemd.proofs.Pending.{length-pending}
 
@@ -23,6 +24,9 @@ pub record Sound (s : State) : Type 0 where
   pub well : WellFormed s
   pub tail : length (s .tail) ≡ 64
   pub words : Chaining (s .width) (s .words)
+
+pub sound-fine : {s : State} → Sound s → faultOf s ≡ 0
+sound-fine {s} k = no-fault s (k .well)
 
 spare-zero : (w : Width) (h : List ℕ) → Chaining w h → zeros (drop (usedOf w) h) ≡ true
 spare-zero w h k = ap zeros (k .spare) ∙ zeros-replicate (10 - usedOf w)
@@ -42,6 +46,10 @@ initial-chaining W320 = record { long = refl; below = search needs; spare = refl
 
 pub fresh-sound : (w : Width) → Sound (freshOf w)
 fresh-sound w = between-sound w (initialOf w) 0 (lit< tt) (initial-chaining w)
+
+pub fed-width : (s : State) (p : List ℕ) → fedState s p .width ≡ s .width
+unfolding fedState
+fed-width s p = refl
 
 module _ (s : State) (p : List ℕ) (k : Sound s) where
   abbrev rest : List ℕ

@@ -1,6 +1,6 @@
 -- Laws of the message that was read.
 -- Assumes nothing.
-use Prim.Native.Nat.{ℕ, _+_, _-_, _*_, _^_, _≤_, _<_}
+use Prim.Native.Nat.{ℕ, _+_, _-_, _^_, _≤_, _<_}
 use mathlib.Core.Path.{_≡_, refl, ap, _∙_}
 use mathlib.Core.Bool.{Bool, true, false}
 use mathlib.Core.List.{List, [], _∷_, _++_}
@@ -9,18 +9,15 @@ use borrow.Author.Tests.{leb-true, leb-false}
 use lib.Dec.{leb}
 use lib.IntN.{ℤ, pos, negsuc}
 use lib.ListN.{length, take, length-append, length-take}
-use Rattle.compress.specs.Block.{initialOf, blocksOf}
+use Rattle.compress.specs.Block.{blocksOf}
 use Rattle.compress.specs.declared.Width.the-variants.{W160}
 use Rattle.ripemd.specs.State.{takenOf, faultOf, freshOf}
 use Rattle.ripemd.specs.Feed.{fedState, feedOf}
-use Rattle.ripemd.specs.Digest.{digestFrom, published}
 use Rattle.ripemd.specs.Finish.{digestOf}
 use Rattle.ripemd.specs.declared.State.{State}
-use Rattle.ripemd.proofs.Well.{no-fault}
 use Rattle.ripemd.proofs.Cuts.{fed-twice}
-use Rattle.ripemd.proofs.Ends.{digest-from}
-use Rattle.ripemd.proofs.Kept.{Sound, fresh-sound, fed-sound, fed-taken}
-use Rattle.ripemd.proofs.Calls.{feed-takes, feed-long}
+use Rattle.ripemd.proofs.Kept.{fresh-sound, fed-width, fed-taken}
+use Rattle.ripemd.proofs.Calls.{feed-takes, feed-long, fed-fine, fed-ends}
 use Rattle.rmd160.specs.Lines.{linesOf, writtenOf, answerOf}
 use Rattle.rmd160.specs.Reading.{fedTurn, pieceTurn, turnOf, Turned, Took, Heard}
 use Rattle.rmd160.specs.declared.Ending.{Ending}
@@ -32,10 +29,6 @@ pub nothing : Took [] (freshOf W160)
 unfolding fedState blocksOf
 nothing = record { short = omega arith; is = refl }
 
-fed-width : (s : State) (p : List ℕ) → fedState s p .width ≡ s .width
-unfolding fedState
-fed-width s p = refl
-
 -- what one more turn comes to
 pub record After (m : List ℕ) (t : Turn) : Type 0 where
   pub message : List ℕ
@@ -44,11 +37,8 @@ pub record After (m : List ℕ) (t : Turn) : Type 0 where
   pub long : t .step ≡ End TooLong → 2 ^ 61 ≤ length message + 4096
 
 module _ (m : List ℕ) (s : State) (k : Took m s) where
-  sound : Sound s
-  sound = rw (k .is) (fed-sound (freshOf W160) m (fresh-sound W160) (omega (arith, k .short)))
-
   pub fault : faultOf s ≡ 0
-  fault = no-fault s (sound .well)
+  fault = ap faultOf (k .is) ∙ fed-fine W160 m (k .short)
 
   pub width : s .width ≡ W160
   width = ap (λ (t : State). t .width) (k .is) ∙ fed-width (freshOf W160) m
@@ -102,9 +92,4 @@ further {m} s t k a q = omega (arith, k .short, taken m s k, taken (a .message) 
 -- the text of the state is the text of the message
 pub answer : (m : List ℕ) (s : State) (e : Ending) → Took m s → writtenOf e s ≡ answerOf e m
 unfolding writtenOf linesOf answerOf
-answer m s e k =
-    let n : 64 * 0 + length m ≡ length m = omega arith in
-    let d : digestOf s ≡ published W160 m =
-    ap digestOf (k .is) ∙ digest-from W160 (initialOf W160) 0 m ∙ ap (λ (n : ℕ). digestFrom W160 (initialOf W160) n m) n
-    in
-    rw (taken m s k, d)
+answer m s e k = rw (taken m s k, ap digestOf (k .is) ∙ fed-ends W160 m (k .short))
