@@ -13,12 +13,13 @@ use Rattle.compress.specs.Block.{blocksOf}
 use Rattle.compress.specs.declared.Width.the-variants.{W160}
 use Rattle.ripemd.specs.State.{takenOf, faultOf, freshOf}
 use Rattle.ripemd.specs.Feed.{fedState, feedOf}
+use Rattle.ripemd.specs.Digest.{published}
 use Rattle.ripemd.specs.Finish.{digestOf}
 use Rattle.ripemd.specs.declared.State.{State}
 use Rattle.ripemd.proofs.Cuts.{fed-twice}
 use Rattle.ripemd.proofs.Kept.{fresh-sound, fed-width, fed-taken}
 use Rattle.ripemd.proofs.Calls.{feed-takes, feed-long, fed-fine, fed-ends}
-use Rattle.rmd160.specs.Lines.{linesOf, writtenOf, answerOf}
+use Rattle.rmd160.specs.Lines.{threeLines, endedOf, linesOf, writtenOf, answerOf}
 use Rattle.rmd160.specs.Reading.{fedTurn, pieceTurn, turnOf, Turned, Took, Heard}
 use Rattle.rmd160.specs.declared.Ending.{Ending}
 use Rattle.rmd160.specs.declared.Ending.the-variants.{Done, Failed, TooLong}
@@ -92,4 +93,6 @@ further {m} s t k a q = omega (arith, k .short, taken m s k, taken (a .message) 
 -- the text of the state is the text of the message
 pub answer : (m : List ℕ) (s : State) (e : Ending) → Took m s → writtenOf e s ≡ answerOf e m
 unfolding writtenOf linesOf answerOf
-answer m s e k = rw (taken m s k, ap digestOf (k .is) ∙ fed-ends W160 m (k .short))
+answer m s e k =
+    let d : digestOf s ≡ published W160 m = ap digestOf (k .is) ∙ fed-ends W160 m (k .short) in
+    ap (endedOf e) (ap (λ (n : ℕ). threeLines n (digestOf s)) (taken m s k) ∙ ap (threeLines (length m)) d)
