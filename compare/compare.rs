@@ -1,5 +1,5 @@
-//! Compares every call of the library with the model, group by group. Its only argument is the seed
-//! of the random sequences. The exit status says whether all was equal.
+//! Compares every call of the library with the model, group by group. Its arguments are the seed of
+//! the random sequences and their number of calls. The exit status says whether all was equal.
 //!
 //! compare/run puts the Rust crate's c160.rs and c320.rs beside a copy of these files.
 
@@ -34,19 +34,20 @@ const GROUPS: [fn(Width) -> Group; 12] = [
 ];
 
 fn main() -> ExitCode {
-    let argument = std::env::args().nth(1).unwrap_or_default();
-    let Ok(seed) = argument.parse() else {
-        eprintln!("the seed is a number below 2^64, not '{argument}'");
+    let arguments: Vec<String> = std::env::args().skip(1).collect();
+    let numbers: Vec<u64> = arguments.iter().filter_map(|argument| argument.parse().ok()).collect();
+    let [seed, calls] = numbers[..] else {
+        eprintln!("the seed and the number of calls are numbers below 2^64, not '{}'", arguments.join(" "));
         return ExitCode::FAILURE;
     };
-    println!("seed {seed}");
+    println!("seed {seed}, {calls} random calls");
     let mut equal = refusals::table().end();
     for group in GROUPS {
         for width in WIDTHS {
             equal &= group(width).end();
         }
     }
-    equal &= random::sequences(seed).end();
+    equal &= random::sequences(seed, calls).end();
     println!("{}", if equal { "all equal" } else { "DIFFERENT" });
     if equal {
         ExitCode::SUCCESS

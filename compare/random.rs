@@ -4,8 +4,6 @@ use crate::call::{Call, Image, Input, Width, WIDTHS};
 use crate::group::Group;
 use crate::model::{State, BLOCKS};
 
-const CALLS: u64 = 2_000_000;
-
 /// The generator splitmix64: any seed will do.
 struct Random(u64);
 
@@ -113,12 +111,12 @@ fn one_call(group: &mut Group, random: &mut Random, image: &mut Image, exported:
     }
 }
 
-pub fn sequences(seed: u64) -> Group {
+pub fn sequences(seed: u64, calls: u64) -> Group {
     let mut group = Group::new(format!("random sequences, seed {seed}"));
     let mut random = Random(seed);
     let mut image = State::fresh(Width::W160).image();
     let mut exported = Vec::new(); // the last record that was exported
-    for _ in 0..CALLS {
+    for _ in 0..calls {
         group.case();
         // Most damage is done to a copy, so that the sequence goes on; some of it stays.
         if random.one_in(8) {

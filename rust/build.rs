@@ -3,17 +3,24 @@
 use std::path::PathBuf;
 use std::{env, process};
 
+fn stop(why: &str) -> ! {
+    eprintln!("{why}");
+    process::exit(1);
+}
+
 fn main() {
     println!("cargo:rerun-if-env-changed=RIPEMD_LIB_DIR");
+    if env::var("CARGO_CFG_TARGET_ARCH").as_deref() != Ok("x86_64") {
+        stop("libripemd_c.a is x86-64 code: build for x86_64-unknown-linux-gnu, as the repository's tests/rust does");
+    }
     // Cargo runs this in the crate's folder, so a relative folder counts from there.
     let folder =
         env::var_os("RIPEMD_LIB_DIR").map_or_else(|| "../target/staticlib".into(), PathBuf::from);
     let Ok(archive) = folder.join("libripemd_c.a").canonicalize() else {
-        eprintln!(
+        stop(&format!(
             "no libripemd_c.a in {}: run `rt staticlib ripemd_c` in the repository's root, or set RIPEMD_LIB_DIR",
             folder.display()
-        );
-        process::exit(1);
+        ));
     };
     let folder = archive.parent().expect("a file has a folder");
     println!("cargo:rerun-if-changed={}", archive.display());
