@@ -1,5 +1,11 @@
 //! The Rust crate's own compress with a plain 64-byte buffer over it, as a user of the crate has it.
-use crate::{c160, c320};
+use crate::{c128, c160, c256, c320};
+
+pub trait Hasher {
+    fn new() -> Self;
+    fn update(&mut self, piece: &[u8]);
+    fn finish(self, out: &mut [u8]);
+}
 
 macro_rules! hasher {
     ($name:ident, $core:ident, $words:literal) => {
@@ -11,16 +17,18 @@ macro_rules! hasher {
         }
 
         impl $name {
-            pub fn new() -> Self {
-                Self { words: $core::H0, count: 0, fill: 0, tail: [0; 64] }
-            }
-
             fn block(&mut self, block: &[u8; 64]) {
                 $core::compress(&mut self.words, block);
                 self.count += 1;
             }
+        }
 
-            pub fn update(&mut self, mut piece: &[u8]) {
+        impl Hasher for $name {
+            fn new() -> Self {
+                Self { words: $core::H0, count: 0, fill: 0, tail: [0; 64] }
+            }
+
+            fn update(&mut self, mut piece: &[u8]) {
                 if self.fill > 0 {
                     let n = piece.len().min(64 - self.fill);
                     self.tail[self.fill..self.fill + n].copy_from_slice(&piece[..n]);
@@ -42,7 +50,7 @@ macro_rules! hasher {
                 self.fill = rest.len();
             }
 
-            pub fn finish(mut self, out: &mut [u8]) {
+            fn finish(mut self, out: &mut [u8]) {
                 let bits = 8 * (64 * self.count + self.fill as u64);
                 self.tail[self.fill] = 0x80;
                 self.tail[self.fill + 1..].fill(0);
@@ -61,5 +69,7 @@ macro_rules! hasher {
     };
 }
 
+hasher!(Rust128, c128, 4);
 hasher!(Rust160, c160, 5);
+hasher!(Rust256, c256, 8);
 hasher!(Rust320, c320, 10);

@@ -6,16 +6,20 @@ pub type Image = [u8; 128];
 
 #[derive(Clone, Copy, Debug, PartialEq)]
 pub enum Width {
+    W128,
     W160,
+    W256,
     W320,
 }
 
-pub const WIDTHS: [Width; 2] = [Width::W160, Width::W320];
+pub const WIDTHS: [Width; 4] = [Width::W128, Width::W160, Width::W256, Width::W320];
 
 impl Width {
     pub fn bits(self) -> usize {
         match self {
+            Width::W128 => 128,
             Width::W160 => 160,
+            Width::W256 => 256,
             Width::W320 => 320,
         }
     }

@@ -1,9 +1,11 @@
 //! Compares every call of the library with the model, group by group. Its arguments are the seed of
 //! the random sequences and their number of calls. The exit status says whether all was equal.
 //!
-//! compare/run puts the Rust crate's c160.rs and c320.rs beside a copy of these files.
+//! compare/run puts the Rust crate's c128.rs, c160.rs, c256.rs and c320.rs beside a copy of these files.
 
+mod c128;
 mod c160;
+mod c256;
 mod c320;
 mod call;
 mod group;

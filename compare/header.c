@@ -4,43 +4,48 @@
 #include <string.h>
 
 static int done = 0, failed = 0;
+static const char *at = "";
 
 static void check(const char *what, int holds) {
     done++;
     if (!holds) {
         failed++;
-        printf("header: %s differs\n", what);
+        printf("header: %s%s differs\n", at, what);
     }
 }
 
-static void hash160(void) {
-    static const uint8_t abc[RIPEMD_160_DIGEST_LENGTH] = {0x8e, 0xb2, 0x08, 0xf7, 0xe0, 0x5d, 0x98, 0x7a, 0x9b, 0x04,
-                                                          0x4a, 0x8e, 0x98, 0xc6, 0xb0, 0x87, 0xf1, 0x5a, 0x0b, 0xfc};
-    ripemd_state state;
-    uint8_t digest[RIPEMD_160_DIGEST_LENGTH], record[RIPEMD_160_RECORD_LENGTH];
-    ripemd_fresh160(&state);
-    check("width 160", state.image[0] == 0);
-    check("export160", ripemd_export(&state, record, sizeof record) == RIPEMD_DONE);
-    check("import160", ripemd_import160(&state, record, sizeof record) == RIPEMD_DONE);
-    check("feed160", ripemd_feed(&state, (const uint8_t *)"abc", 3) == RIPEMD_DONE);
-    check("feed of nothing", ripemd_feed(&state, NULL, 0) == RIPEMD_DONE);
-    check("finish160", ripemd_finish(&state, digest, sizeof digest) == RIPEMD_DONE);
-    check("digest160", memcmp(digest, abc, sizeof digest) == 0);
-    memset(digest, 0, sizeof digest);
-    check("one_shot160", ripemd_one_shot160((const uint8_t *)"abc", 3, digest, sizeof digest) == RIPEMD_DONE);
-    check("digest160 at once", memcmp(digest, abc, sizeof digest) == 0);
-}
+/* What a width has of its own. */
+struct width {
+    const char *name;
+    uint8_t number;
+    size_t digest, record;
+    void (*fresh)(ripemd_state *state);
+    uint32_t (*import)(ripemd_state *state, const uint8_t *record, size_t n);
+    uint32_t (*one_shot)(const uint8_t *message, size_t m, uint8_t *output, size_t n);
+    uint8_t abc[4]; /* how the digest of "abc" begins */
+};
 
-static void hash320(void) {
+static const struct width widths[] = {
+    {"width 128, ", 2, RIPEMD_128_DIGEST_LENGTH, RIPEMD_128_RECORD_LENGTH, ripemd_fresh128, ripemd_import128, ripemd_one_shot128, {0xc1, 0x4a, 0x12, 0x19}},
+    {"width 160, ", 0, RIPEMD_160_DIGEST_LENGTH, RIPEMD_160_RECORD_LENGTH, ripemd_fresh160, ripemd_import160, ripemd_one_shot160, {0x8e, 0xb2, 0x08, 0xf7}},
+    {"width 256, ", 3, RIPEMD_256_DIGEST_LENGTH, RIPEMD_256_RECORD_LENGTH, ripemd_fresh256, ripemd_import256, ripemd_one_shot256, {0xaf, 0xbd, 0x6e, 0x22}},
+    {"width 320, ", 1, RIPEMD_320_DIGEST_LENGTH, RIPEMD_320_RECORD_LENGTH, ripemd_fresh320, ripemd_import320, ripemd_one_shot320, {0xde, 0x4c, 0x01, 0xb3}},
+};
+
+static void hash(const struct width *w) {
     ripemd_state state;
-    uint8_t digest[RIPEMD_320_DIGEST_LENGTH], whole[RIPEMD_320_DIGEST_LENGTH], record[RIPEMD_320_RECORD_LENGTH];
-    ripemd_fresh320(&state);
-    check("width 320", state.image[0] == 1);
-    check("export320", ripemd_export(&state, record, sizeof record) == RIPEMD_DONE);
-    check("import320", ripemd_import320(&state, record, sizeof record) == RIPEMD_DONE);
-    check("finish320", ripemd_finish(&state, digest, sizeof digest) == RIPEMD_DONE);
-    check("one_shot320", ripemd_one_shot320(NULL, 0, whole, sizeof whole) == RIPEMD_DONE);
-    check("digest320", memcmp(digest, whole, sizeof digest) == 0);
+    uint8_t digest[RIPEMD_320_DIGEST_LENGTH] = {0}, whole[RIPEMD_320_DIGEST_LENGTH] = {0}, record[RIPEMD_320_RECORD_LENGTH];
+    at = w->name;
+    w->fresh(&state);
+    check("number", state.image[0] == w->number);
+    check("export", ripemd_export(&state, record, w->record) == RIPEMD_DONE);
+    check("import", w->import(&state, record, w->record) == RIPEMD_DONE);
+    check("feed", ripemd_feed(&state, (const uint8_t *)"abc", 3) == RIPEMD_DONE);
+    check("feed of nothing", ripemd_feed(&state, NULL, 0) == RIPEMD_DONE);
+    check("finish", ripemd_finish(&state, digest, w->digest) == RIPEMD_DONE);
+    check("digest", memcmp(digest, w->abc, sizeof w->abc) == 0);
+    check("one_shot", w->one_shot((const uint8_t *)"abc", 3, whole, w->digest) == RIPEMD_DONE);
+    check("digest at once", memcmp(digest, whole, sizeof digest) == 0);
 }
 
 static void refusals(void) {
@@ -64,8 +69,8 @@ static void refusals(void) {
 
 int main(void) {
     check("length of a state", sizeof(ripemd_state) == 128);
-    hash160();
-    hash320();
+    for (size_t i = 0; i < sizeof widths / sizeof widths[0]; i++) hash(&widths[i]);
+    at = "";
     refusals();
 #ifdef __cplusplus
     printf("header from C++: %d of %d equal\n", done - failed, done);

@@ -3,17 +3,37 @@
 use crate::call::{Answer, Call, Image, Width};
 use std::ptr::{self, NonNull};
 
+type Fresh = unsafe extern "C" fn(state: *mut u8);
+type Import = unsafe extern "C" fn(state: *mut u8, record: *const u8, n: usize) -> u32;
+type OneShot = unsafe extern "C" fn(message: *const u8, m: usize, output: *mut u8, n: usize) -> u32;
+
 extern "C" {
+    fn ripemd_fresh128(state: *mut u8);
     fn ripemd_fresh160(state: *mut u8);
+    fn ripemd_fresh256(state: *mut u8);
     fn ripemd_fresh320(state: *mut u8);
     fn ripemd_reset(state: *mut u8);
     fn ripemd_feed(state: *mut u8, piece: *const u8, n: usize) -> u32;
     fn ripemd_finish(state: *const u8, output: *mut u8, n: usize) -> u32;
     fn ripemd_export(state: *const u8, output: *mut u8, n: usize) -> u32;
+    fn ripemd_import128(state: *mut u8, record: *const u8, n: usize) -> u32;
     fn ripemd_import160(state: *mut u8, record: *const u8, n: usize) -> u32;
+    fn ripemd_import256(state: *mut u8, record: *const u8, n: usize) -> u32;
     fn ripemd_import320(state: *mut u8, record: *const u8, n: usize) -> u32;
+    fn ripemd_one_shot128(message: *const u8, m: usize, output: *mut u8, n: usize) -> u32;
     fn ripemd_one_shot160(message: *const u8, m: usize, output: *mut u8, n: usize) -> u32;
+    fn ripemd_one_shot256(message: *const u8, m: usize, output: *mut u8, n: usize) -> u32;
     fn ripemd_one_shot320(message: *const u8, m: usize, output: *mut u8, n: usize) -> u32;
+}
+
+/// The calls that have the width in their name.
+fn named(width: Width) -> (Fresh, Import, OneShot) {
+    match width {
+        Width::W128 => (ripemd_fresh128, ripemd_import128, ripemd_one_shot128),
+        Width::W160 => (ripemd_fresh160, ripemd_import160, ripemd_one_shot160),
+        Width::W256 => (ripemd_fresh256, ripemd_import256, ripemd_one_shot256),
+        Width::W320 => (ripemd_fresh320, ripemd_import320, ripemd_one_shot320),
+    }
 }
 
 /// Odd, so that nothing lent lies at an even address by chance.
@@ -79,14 +99,11 @@ pub fn answer(before: &Image, call: &Call, empty: *mut u8) -> Answer {
 }
 
 unsafe fn raw(call: &Call, state: *mut u8, from: *const u8, to: *mut u8, n: usize) -> u32 {
-    use Width::*;
     let m = call.input().length();
-    match call {
+    match *call {
         Call::Fresh(width) => {
-            match width {
-                W160 => ripemd_fresh160(state),
-                W320 => ripemd_fresh320(state),
-            }
+            let (fresh, _, _) = named(width);
+            fresh(state);
             0
         }
         Call::Reset => {
@@ -96,9 +113,13 @@ unsafe fn raw(call: &Call, state: *mut u8, from: *const u8, to: *mut u8, n: usiz
         Call::Feed(_) => ripemd_feed(state, from, m),
         Call::Finish(_) => ripemd_finish(state, to, n),
         Call::Export(_) => ripemd_export(state, to, n),
-        Call::Import(W160, _) => ripemd_import160(state, from, m),
-        Call::Import(W320, _) => ripemd_import320(state, from, m),
-        Call::OneShot(W160, ..) => ripemd_one_shot160(from, m, to, n),
-        Call::OneShot(W320, ..) => ripemd_one_shot320(from, m, to, n),
+        Call::Import(width, _) => {
+            let (_, import, _) = named(width);
+            import(state, from, m)
+        }
+        Call::OneShot(width, ..) => {
+            let (_, _, one_shot) = named(width);
+            one_shot(from, m, to, n)
+        }
     }
 }

@@ -2,7 +2,10 @@
 //! It shares no code with the library and is written for reading, not for speed.
 
 use crate::call::{Answer, Call, Image, Width};
-use crate::{c160, c320};
+use crate::{c128, c160, c256, c320};
+
+/// The widths by their number in byte 0 of an image.
+const NUMBERED: [Width; 4] = [Width::W160, Width::W320, Width::W128, Width::W256];
 
 pub const BLOCKS: u64 = 1 << 55;
 pub const BYTES: u128 = 1 << 61;
@@ -17,7 +20,9 @@ pub struct State {
 
 fn compress(width: Width, words: &mut [u32; 10], block: &[u8; 64]) {
     match width {
+        Width::W128 => c128::compress((&mut words[..4]).try_into().unwrap(), block),
         Width::W160 => c160::compress((&mut words[..5]).try_into().unwrap(), block),
+        Width::W256 => c256::compress((&mut words[..8]).try_into().unwrap(), block),
         Width::W320 => c320::compress(words, block),
     }
 }
@@ -41,15 +46,17 @@ fn to_number(bytes: &[u8]) -> u64 {
 impl State {
     pub fn fresh(width: Width) -> State {
         let words = match width {
-            Width::W160 => to_words(&to_bytes(&c160::H0)),
-            Width::W320 => c320::H0,
+            Width::W128 => to_bytes(&c128::H0),
+            Width::W160 => to_bytes(&c160::H0),
+            Width::W256 => to_bytes(&c256::H0),
+            Width::W320 => to_bytes(&c320::H0),
         };
-        State { width, count: 0, fill: 0, words, tail: [0; 64] }
+        State { width, count: 0, fill: 0, words: to_words(&words), tail: [0; 64] }
     }
 
     pub fn read(image: &Image) -> State {
         State {
-            width: if image[0] % 2 == 0 { Width::W160 } else { Width::W320 },
+            width: NUMBERED[image[0] as usize % 4],
             count: to_number(&image[8..16]),
             fill: to_number(&image[16..24]),
             words: to_words(&image[24..64]),
@@ -59,7 +66,7 @@ impl State {
 
     pub fn image(&self) -> Image {
         let mut image = [0; 128];
-        image[0] = (self.width == Width::W320) as u8;
+        image[0] = NUMBERED.iter().position(|width| *width == self.width).unwrap() as u8;
         image[8..16].copy_from_slice(&self.count.to_le_bytes());
         image[16..24].copy_from_slice(&self.fill.to_le_bytes());
         image[24..64].copy_from_slice(&to_bytes(&self.words));

@@ -81,7 +81,7 @@ fn any_record(random: &mut Random, width: Width, exported: &[u8]) -> Vec<u8> {
 /// A copy of the image with one thing changed; not every change makes it ill-formed.
 fn damaged(random: &mut Random, image: &Image) -> Image {
     let mut damaged = *image;
-    let (from, to) = random.pick(&[(0, 1), (0, 8), (8, 16), (16, 24), (44, 64), (64, 128), (0, 128)]);
+    let (from, to) = random.pick(&[(0, 1), (0, 8), (8, 16), (16, 24), (40, 64), (64, 128), (0, 128)]);
     match random.below(4) {
         0 => damaged[from..to].copy_from_slice(&random.bytes(to - from)),
         1 => damaged[8..16].copy_from_slice(&any_count(random).to_le_bytes()),

@@ -9,7 +9,9 @@
 //!                                                imported and the message's first n bytes fed
 #![allow(dead_code)]
 
+mod c128;
 mod c160;
+mod c256;
 mod c320;
 mod call;
 mod model;

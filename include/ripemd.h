@@ -1,7 +1,7 @@
 /*
- * RIPEMD-160 and RIPEMD-320 for C and C++: the calls of libripemd_c.a, which
- * `rt staticlib ripemd_c` proves and writes to target/staticlib. It is x86-64
- * code. To link it:
+ * RIPEMD-128, 160, 256 and 320 for C and C++: the calls of libripemd_c.a,
+ * which `rt staticlib ripemd_c` proves and writes to target/staticlib. It is
+ * x86-64 code. To link it:
  *
  *     cc -Iinclude program.c target/staticlib/libripemd_c.a
  *
@@ -31,9 +31,13 @@ extern "C" {
 #endif
 
 /* Lengths in bytes. */
+#define RIPEMD_128_DIGEST_LENGTH 16
 #define RIPEMD_160_DIGEST_LENGTH 20
+#define RIPEMD_256_DIGEST_LENGTH 32
 #define RIPEMD_320_DIGEST_LENGTH 40
+#define RIPEMD_128_RECORD_LENGTH 24
 #define RIPEMD_160_RECORD_LENGTH 28
+#define RIPEMD_256_RECORD_LENGTH 40
 #define RIPEMD_320_RECORD_LENGTH 48
 #define RIPEMD_STATE_LENGTH 128
 
@@ -55,7 +59,7 @@ enum ripemd_number {
 /*
  * The image of a state; numbers low byte first.
  *
- *     byte 0         width: 0 is 160, 1 is 320; only whether it is odd is read
+ *     byte 0         width, read modulo 4: 0 is 160, 1 is 320, 2 is 128, 3 is 256
  *     bytes 1-7      written as zero, not read
  *     bytes 8-15     count of whole blocks taken
  *     bytes 16-23    fill: bytes of the block that is not yet whole
@@ -63,7 +67,9 @@ enum ripemd_number {
  *     bytes 64-127   tail: the block that is not yet whole
  *
  * It is well formed when the count is below 2^55, the fill is at most 63,
- * the tail is zero from the fill on and, at width 160, words 5 to 9 are zero.
+ * the tail is zero from the fill on, and the words that the width doesn't use
+ * are zero: width 128 uses words 0 to 3, 160 words 0 to 4, 256 words 0 to 7,
+ * and 320 all ten.
  * Every call below leaves a well formed state so; only damage from outside
  * makes another.
  */
@@ -75,7 +81,9 @@ typedef struct ripemd_state {
  * Sets the state to that of an empty message at the width named. What the
  * memory held before does not matter. Never refused.
  */
+void ripemd_fresh128(ripemd_state *state);
 void ripemd_fresh160(ripemd_state *state);
+void ripemd_fresh256(ripemd_state *state);
 void ripemd_fresh320(ripemd_state *state);
 
 /*
@@ -95,17 +103,19 @@ uint32_t ripemd_feed(ripemd_state *state, const uint8_t *piece, size_t n);
 /*
  * Writes the digest of all bytes taken so far. The state is only read, and
  * feeding may go on.
- * Done: all n bytes of the output are the digest; n is 20 or 40 by width.
+ * Done: all n bytes of the output are the digest; n is 16, 20, 32 or 40 by
+ * width.
  * Refused, RIPEMD_ILL_FORMED then RIPEMD_OUTPUT_LENGTH: no byte is written.
  */
 uint32_t ripemd_finish(const ripemd_state *state, uint8_t *output, size_t n);
 
 /*
- * Writes the state's record, from which import goes on after a restart: five
- * or ten words, then the block count as eight bytes, low byte first. It is
- * the record of the Rust crate ripemd 0.2.0 (Ripemd160Core, Ripemd320Core).
- * The state is only read.
- * Done: all n bytes of the output are the record; n is 28 or 48 by width.
+ * Writes the state's record, from which import goes on after a restart: the
+ * words that the width uses, then the block count as eight bytes, low byte
+ * first. It is the record of the Rust crate ripemd 0.2.0 (Ripemd128Core,
+ * Ripemd160Core, Ripemd256Core, Ripemd320Core). The state is only read.
+ * Done: all n bytes of the output are the record; n is 24, 28, 40 or 48 by
+ * width.
  * Refused, RIPEMD_ILL_FORMED then RIPEMD_OUTPUT_LENGTH then
  * RIPEMD_MID_BLOCK: no byte is written.
  */
@@ -119,15 +129,20 @@ uint32_t ripemd_export(const ripemd_state *state, uint8_t *output, size_t n);
  * Refused, RIPEMD_RECORD_LENGTH then RIPEMD_RECORD_COUNT: the state is that
  * of an empty message at the width named.
  */
+uint32_t ripemd_import128(ripemd_state *state, const uint8_t *record, size_t n);
 uint32_t ripemd_import160(ripemd_state *state, const uint8_t *record, size_t n);
+uint32_t ripemd_import256(ripemd_state *state, const uint8_t *record, size_t n);
 uint32_t ripemd_import320(ripemd_state *state, const uint8_t *record, size_t n);
 
 /*
  * Writes the digest of a whole message of m bytes, with no state.
- * Done: all n bytes of the output are the digest; n is 20 or 40 by width.
+ * Done: all n bytes of the output are the digest; n is 16, 20, 32 or 40 by
+ * width.
  * Refused, RIPEMD_OUTPUT_LENGTH then RIPEMD_TOO_LONG: no byte is written.
  */
+uint32_t ripemd_one_shot128(const uint8_t *message, size_t m, uint8_t *output, size_t n);
 uint32_t ripemd_one_shot160(const uint8_t *message, size_t m, uint8_t *output, size_t n);
+uint32_t ripemd_one_shot256(const uint8_t *message, size_t m, uint8_t *output, size_t n);
 uint32_t ripemd_one_shot320(const uint8_t *message, size_t m, uint8_t *output, size_t n);
 
 #ifdef __cplusplus

@@ -54,7 +54,7 @@ impl fmt::Display for Error {
             Error::TooLong => "the message would have 2^61 bytes or more: finish it and begin another",
             Error::MidBlock => "bytes taken are not a multiple of 64: keep those after the last multiple and feed them after the restart",
             Error::OutputLength => "the output has the wrong length: lend exactly as many bytes as the digest or record has",
-            Error::RecordLength => "the record has the wrong length: take it whole, 28 bytes at width 160 and 48 at 320",
+            Error::RecordLength => "the record has the wrong length: take it whole: 24 bytes at width 128, 28 at 160, 40 at 256 and 48 at 320",
             Error::RecordCount => "the record's block count is 2^55 or more, so it is damaged: take another record",
             Error::IllFormed => "the state is damaged: reset it, or go on from a record",
         })

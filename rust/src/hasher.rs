@@ -1,4 +1,4 @@
-//! Both hashers from one text: they differ in name, width and lengths alone.
+//! All hashers from one text: they differ in name, width and lengths alone.
 
 /// Says why a call that has no error to give could not be refused, should it be.
 pub(crate) const NEVER: &str = "a state that the library made, and an array of the right length";

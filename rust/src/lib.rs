@@ -1,4 +1,4 @@
-//! RIPEMD-160 and RIPEMD-320 by a static library that is proved to compute the published digests.
+//! RIPEMD-128, 160, 256 and 320 by a static library that is proved to compute the published digests.
 //!
 //! ```
 //! use ripemd::Ripemd160;
@@ -44,9 +44,9 @@
 //! # Coming from RustCrypto's ripemd 0.2.0
 //!
 //! - The methods belong to the types: drop `use ripemd::Digest`.
-//! - A digest is an array, `[u8; 20]` or `[u8; 40]`.
-//! - `serialize` gives the record of `Ripemd160Core` or `Ripemd320Core`, the same bytes, and is
-//!   refused in the middle of a block. The old `Ripemd160` appended its part-filled block.
+//! - A digest is an array, such as `[u8; 20]` of `Ripemd160`.
+//! - `serialize` gives the record of `Ripemd160Core` and its like, the same bytes, and is refused in
+//!   the middle of a block. The old `Ripemd160` appended its part-filled block.
 //! - `deserialize` refuses a block count of 2^55 or more, and `update` a message of 2^61 bytes or
 //!   more: from there on the old crate's bit length overflowed.
 //!
@@ -62,9 +62,11 @@ mod hasher;
 
 pub use error::Error;
 
-use ffi::{Image, Width};
+use ffi::Image;
 use hasher::{hasher, NEVER};
 use std::{fmt, io};
 
-hasher!(Ripemd160, "160", Width::W160, 20, 28);
-hasher!(Ripemd320, "320", Width::W320, 40, 48);
+hasher!(Ripemd128, "128", ffi::W128, 16, 24);
+hasher!(Ripemd160, "160", ffi::W160, 20, 28);
+hasher!(Ripemd256, "256", ffi::W256, 32, 40);
+hasher!(Ripemd320, "320", ffi::W320, 40, 48);

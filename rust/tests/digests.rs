@@ -83,10 +83,22 @@ macro_rules! digests {
 }
 
 digests!(
+    width128,
+    Ripemd128,
+    "cdf26213a150dc3ecb610f18f6b38b46",
+    "c14a12199c66e4ba84636b0f69144c77"
+);
+digests!(
     width160,
     Ripemd160,
     "9c1185a5c5e9fc54612808977ee8f548b2258d31",
     "8eb208f7e05d987a9b044a8e98c6b087f15a0bfc"
+);
+digests!(
+    width256,
+    Ripemd256,
+    "02ba4c4e5f8ecd1877fc52d64d30e37a2d9774fb1e5d026380ae0168e3c5522d",
+    "afbd6e228b9d8cbbcef5ca2d03e6dba10ac0bc7dcbe4680e1e42d2e975459b65"
 );
 digests!(
     width320,

@@ -86,7 +86,9 @@ macro_rules! records {
     };
 }
 
+records!(width128, Ripemd128);
 records!(width160, Ripemd160);
+records!(width256, Ripemd256);
 records!(width320, Ripemd320);
 
 #[test]

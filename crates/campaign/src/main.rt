@@ -48,37 +48,18 @@ fn refused(w: Width, s: State, piece: &[u8]) {
 fn resumed(w: Width, s: State) -> Run
     ensures { λ r. ⌜ r .number ≤ 1 ⌝ }
 {
-    match w {
-        Width::W160 => {
-            let mut record = [0u8; 28];
-            if ripemd::export(s, &mut record) != 0 {
-                return Run {
-                    state: s,
-                    number: 0,
-                };
-            }
-            let i = ripemd::import(w, &record);
-            let t = i.state;
-            Run {
-                state: t,
-                number: 1,
-            }
-        }
-        Width::W320 => {
-            let mut record = [0u8; 48];
-            if ripemd::export(s, &mut record) != 0 {
-                return Run {
-                    state: s,
-                    number: 0,
-                };
-            }
-            let i = ripemd::import(w, &record);
-            let t = i.state;
-            Run {
-                state: t,
-                number: 1,
-            }
-        }
+    let mut record = [0u8; 48];
+    if front::export(s, &mut record) != 0 {
+        return Run {
+            state: s,
+            number: 0,
+        };
+    }
+    let i = ripemd::import(w, text::first(&record, front::record_length(w)));
+    let t = i.state;
+    Run {
+        state: t,
+        number: 1,
     }
 }
 
@@ -118,6 +99,7 @@ fn campaign(w: Width) {
     let two = restarted(w);
     let a = one.state;
     let b = two.state;
+    report::number(b"width=", 8 * front::digest_length(w) as u64);
     report::number(b"bytes=", one.number);
     report::number(b"restarts=", two.number);
     report::digest(w, b"straight=", a);
@@ -125,8 +107,8 @@ fn campaign(w: Width) {
 }
 
 fn main() {
-    report::number(b"width=", 160);
+    campaign(Width::W128);
     campaign(Width::W160);
-    report::number(b"width=", 320);
+    campaign(Width::W256);
     campaign(Width::W320);
 }

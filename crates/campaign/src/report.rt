@@ -20,16 +20,7 @@ fn hex(key: &[u8], bytes: &[u8]) {
 }
 
 pub fn digest(w: Width, key: &[u8], s: State) {
-    match w {
-        Width::W160 => {
-            let mut out = [0u8; 20];
-            ripemd::finish(s, &mut out);
-            hex(key, &out);
-        }
-        Width::W320 => {
-            let mut out = [0u8; 40];
-            ripemd::finish(s, &mut out);
-            hex(key, &out);
-        }
-    }
+    let mut out = [0u8; 40];
+    front::finish(s, &mut out);
+    hex(key, text::first(&out, front::digest_length(w)));
 }

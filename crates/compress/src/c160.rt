@@ -1,9 +1,10 @@
 // What width 160 has of its own.
 ghost use mathlib.Core.Path.{_≡_};
-ghost use Rattle.words.specs.Words.{addOf};
-ghost use Rattle.lines.specs.Places.{namedPair, placedPair};
+ghost use Rattle.tables.specs.declared.Size.the-variants.{Five};
+ghost use Rattle.rounds.specs.Engine.{placesOf, namesOf};
 ghost use Rattle.compress.specs.Block.{startOf, combineOf};
 ghost use Rattle.compress.specs.declared.Width.the-variants.{W160};
+use crate::sum;
 use lines::Both;
 
 pub const H0: [u32; 10] = [
@@ -21,21 +22,15 @@ pub const H0: [u32; 10] = [
 
 // Both lines start from the same words.
 pub fn start(h: [u32; 10]) -> Both
-    ensures { λ r. ⌜ r ≡ placedPair 0 (startOf W160 h) ⌝ }
+    ensures { λ r. ⌜ r ≡ placesOf Five (startOf W160 h) ⌝ }
 {
     let v = [h[0], h[1], h[2], h[3], h[4]];
     Both { left: v, right: v }
 }
 
-fn sum(x: u32, y: u32, z: u32) -> u32
-    ensures { λ r. ⌜ r ≡ addOf (addOf x y) z ⌝ }
-{
-    words::add(words::add(x, y), z)
-}
-
 // The new words, all from the old h: new0 is made of the old h1, as the paper's T is.
 pub fn combine(h: [u32; 10], p: Both) -> [u32; 10]
-    ensures { λ r. ⌜ r ≡ combineOf W160 h (namedPair 80 p) ⌝ }
+    ensures { λ r. ⌜ r ≡ combineOf W160 h (namesOf Five p) ⌝ }
 {
     let l = p.left;
     let r = p.right;

@@ -1,22 +1,28 @@
-// One block at either width, on ten words: the paper's compression function.
+// One block at any width, on ten words: the paper's compression function.
+mod c128;
 mod c160;
+mod c256;
 mod c320;
 
 ghost use mathlib.Core.Path.{_≡_};
-ghost use Prim.Native.Nat.{_*_, _<_, _≤_};
+ghost use Prim.Native.Nat.{_*_, _≤_};
 ghost use lib.ListN.{length};
+ghost use Rattle.words.specs.Words.{addOf};
 ghost use Rattle.words.specs.Bytes.{wordsOf};
-ghost use Rattle.tables.specs.Rule.{Tables, Constants};
+ghost use Rattle.tables.specs.Rule.{Constants};
 ghost use Rattle.tables.specs.declared.Line.the-variants.{Left, Right};
-ghost use Rattle.lines.specs.Places.{namedPair, placedPair};
-ghost use Rattle.compress.specs.Block.{usedOf, initialOf, startOf, roundsOf, combineOf, compressOf, blocksOf};
-ghost use Rattle.compress.specs.Engine.{exchangedAfter};
+ghost use Rattle.rounds.specs.Engine.{placesOf, namesOf};
+ghost use Rattle.compress.specs.Block.{usedOf, sizeOf, initialOf, startOf, exchangesOf, combineOf, compressOf, blocksOf};
 use lines::Both;
 use tables::Line;
+use tables::Size;
 
+// In the order of their numbers in the C face's image, so that it takes no table to read one.
 pub enum Width {
     W160,
     W320,
+    W128,
+    W256,
 }
 
 // How many of the ten words a width uses.
@@ -24,8 +30,22 @@ pub fn used(w: Width) -> usize
     ensures { λ r. ⌜ r ≡ usedOf w ⌝ }
 {
     match w {
+        Width::W128 => 4,
         Width::W160 => 5,
+        Width::W256 => 8,
         Width::W320 => 10,
+    }
+}
+
+// How many registers its lines have, and rounds.
+fn size(w: Width) -> Size
+    ensures { λ r. ⌜ r ≡ sizeOf w ⌝ }
+{
+    match w {
+        Width::W128 => Size::Four,
+        Width::W160 => Size::Five,
+        Width::W256 => Size::Four,
+        Width::W320 => Size::Five,
     }
 }
 
@@ -34,72 +54,52 @@ pub fn initial(w: Width) -> [u32; 10]
     ensures { λ r. ⌜ r ≡ initialOf w ⌝ }
 {
     match w {
+        Width::W128 => c128::H0,
         Width::W160 => c160::H0,
+        Width::W256 => c256::H0,
         Width::W320 => c320::H0,
     }
 }
 
 fn start(w: Width, h: [u32; 10]) -> Both
-    ensures { λ r. ⌜ r ≡ placedPair 0 (startOf w h) ⌝ }
+    ensures { λ r. ⌜ r ≡ placesOf (sizeOf w) (startOf w h) ⌝ }
 {
     match w {
+        Width::W128 => c128::start(h),
         Width::W160 => c160::start(h),
+        Width::W256 => c256::start(h),
         Width::W320 => c320::start(h),
     }
 }
 
-// What follows round n, counted from 0: at width 320 place n is exchanged.
-fn exchange_after(w: Width, n: usize, p: Both) -> Both
-    requires { ⌜ n < 5 ⌝ }
-    ensures { λ r. ⌜ r ≡ exchangedAfter w n p ⌝ }
+// Whether the lines exchange a register after each round.
+fn exchanges(w: Width) -> bool
+    ensures { λ r. ⌜ r ≡ exchangesOf w ⌝ }
 {
     match w {
-        Width::W160 => p,
-        Width::W320 => lines::exchange(p, n),
+        Width::W128 => false,
+        Width::W160 => false,
+        Width::W256 => true,
+        Width::W320 => true,
     }
+}
+
+// Three words of a combination.
+fn sum(x: u32, y: u32, z: u32) -> u32
+    ensures { λ r. ⌜ r ≡ addOf (addOf x y) z ⌝ }
+{
+    words::add(words::add(x, y), z)
 }
 
 fn combine(w: Width, h: [u32; 10], p: Both) -> [u32; 10]
-    ensures { λ r. ⌜ r ≡ combineOf w h (namedPair 80 p) ⌝ }
+    ensures { λ r. ⌜ r ≡ combineOf w h (namesOf (sizeOf w) p) ⌝ }
 {
     match w {
+        Width::W128 => c128::combine(h, p),
         Width::W160 => c160::combine(h, p),
+        Width::W256 => c256::combine(h, p),
         Width::W320 => c320::combine(h, p),
     }
-}
-
-// The five rounds. The bounds are written out, eight steps to a call, and the function has one caller: so LLVM opens every loop, and what a
-// step reads from a table is a literal there.
-fn rounds(
-    w: Width,
-    p: Both,
-    x: &[u32; 16],
-    r: &[usize; 80],
-    s: &[u32; 80],
-    k: &[u32; 5],
-    r2: &[usize; 80],
-    s2: &[u32; 80],
-    k2: &[u32; 5],
-) -> Both
-    requires { ⌜ Tables Left (now r) (now s) (now k) ⌝ }
-    requires { ⌜ Tables Right (now r2) (now s2) (now k2) ⌝ }
-    ensures { λ q. ⌜ q ≡ placedPair 80 (roundsOf w (now (x .entry)) 5 (namedPair 0 p)) ⌝ }
-{
-    let a = lines::walk(p, x, r, s, k, r2, s2, k2, 0, 8);
-    let b = lines::walk(a, x, r, s, k, r2, s2, k2, 8, 16);
-    let c = exchange_after(w, 0, b);
-    let d = lines::walk(c, x, r, s, k, r2, s2, k2, 16, 24);
-    let e = lines::walk(d, x, r, s, k, r2, s2, k2, 24, 32);
-    let f = exchange_after(w, 1, e);
-    let g = lines::walk(f, x, r, s, k, r2, s2, k2, 32, 40);
-    let h = lines::walk(g, x, r, s, k, r2, s2, k2, 40, 48);
-    let i = exchange_after(w, 2, h);
-    let j = lines::walk(i, x, r, s, k, r2, s2, k2, 48, 56);
-    let l = lines::walk(j, x, r, s, k, r2, s2, k2, 56, 64);
-    let m = exchange_after(w, 3, l);
-    let n = lines::walk(m, x, r, s, k, r2, s2, k2, 64, 72);
-    let o = lines::walk(n, x, r, s, k, r2, s2, k2, 72, 80);
-    exchange_after(w, 4, o)
 }
 
 // h after one block. The constants are lent and the function has two callers, so that LLVM does not see them here.
@@ -116,7 +116,9 @@ fn one_block(w: Width, h: &mut [u32; 10], block: &[u8], k: &[u32; 5], k2: &[u32;
     let s2 = tables::shift::table(Line::Right);
     let old = *h;
     let p = start(w, old);
-    let q = rounds(w, p, &x, &r, &s, k, &r2, &s2, k2);
+    let z = size(w);
+    let exchanging = exchanges(w);
+    let q = rounds::rounds(z, exchanging, p, &x, &r, &s, k, &r2, &s2, k2);
     *h = combine(w, old, q);
 }
 

@@ -6,13 +6,11 @@ use mathlib.Core.List.{List}
 use mathlib.Core.Bool.{true}
 use native.Mathlib.Omega.{arith}
 use lib.Dec.{lit<}
-use borrow.Author.Needs.{needs}
 use lib.ListN.{length, drop, replicate, length-append, length-drop, length-replicate}
 use lib.Seq.{drop-at}
 use Rattle.compress.specs.Block.{usedOf, initialOf, blocksOf}
 use Rattle.compress.specs.declared.Width.{Width}
-use Rattle.compress.specs.declared.Width.the-variants.{W160, W320}
-use Rattle.compress.proofs.Kept.{Chaining, blocks-chaining}
+use Rattle.compress.proofs.Kept.{Chaining, initial-chaining, blocks-chaining}
 use Rattle.ripemd.specs.State.{zeros, takenOf, WellFormed, faultOf, between, freshOf}
 use Rattle.ripemd.specs.Feed.{pending, wholeBlocks, fedState}
 use Rattle.ripemd.specs.declared.State.{State}
@@ -39,10 +37,6 @@ between-sound w h c l k =
       tail = refl;
       words = k;
     }
-
-initial-chaining : (w : Width) → Chaining w (initialOf w)
-initial-chaining W160 = record { long = refl; below = search needs; spare = refl }
-initial-chaining W320 = record { long = refl; below = search needs; spare = refl }
 
 pub fresh-sound : (w : Width) → Sound (freshOf w)
 fresh-sound w = between-sound w (initialOf w) 0 (lit< tt) (initial-chaining w)

@@ -8,8 +8,6 @@ use borrow.Author.Tests.{leb-false, lt-leb, not-false}
 use lib.Dec.{leb}
 use lib.ListN.{drop}
 use Rattle.compress.specs.Block.{usedOf}
-use Rattle.compress.specs.declared.Width.{Width}
-use Rattle.compress.specs.declared.Width.the-variants.{W160, W320}
 use Rattle.ripemd.specs.State.{zeros, faultOf, WellFormed}
 use Rattle.ripemd.specs.declared.State.{State}
 
@@ -40,7 +38,3 @@ module _ (s : State) where
   pub no-fault : WellFormed s → faultOf s ≡ 0
   unfolding faultOf
   no-fault w = rw (lt-leb 64 (s .fill) (w .fill), lt-leb (2 ^ 55) (s .count .0) (w .count), w .tail, w .spare)
-
-pub used-le : (w : Width) → usedOf w ≤ 10
-used-le W160 = omega arith
-used-le W320 = omega arith

@@ -5,7 +5,8 @@ use mathlib.Core.List.{[]}
 use Rattle.words.specs.Words.{rolOf, fOf}
 use Rattle.tables.specs.Rule.{orderOf, shiftOf, kOf, functionOf}
 use Rattle.lines.specs.Steps.{stepOf, stepAt, stepsOf, pairSteps}
-use Rattle.compress.specs.Block.{roundsOf, combineOf, compressOf, blocksOf}
+use Rattle.rounds.specs.Rounds.{roundsOf}
+use Rattle.compress.specs.Block.{combineOf, compressOf, blocksOf}
 use Rattle.ripemd.specs.Digest.{digestFrom}
 use Rattle.text.specs.Text.{decimalOf, digitsOf, hexDigit}
 use Rattle.rmd160.specs.Lines.{ascii, answerOf}

@@ -75,40 +75,16 @@ fn lengths(w: Width, m: &[u8]) {
 
 // The record after the message's first n bytes.
 fn record(w: Width, m: &[u8], n: usize) {
-    let s = fed(ripemd::fresh(w), text::first(m, n));
-    match w {
-        Width::W160 => {
-            let mut out = [0u8; 28];
-            ripemd::export(s, &mut out);
-            rows::record_at(w, n, &out);
-        }
-        Width::W320 => {
-            let mut out = [0u8; 48];
-            ripemd::export(s, &mut out);
-            rows::record_at(w, n, &out);
-        }
-    }
+    rows::record_at(w, n, fed(ripemd::fresh(w), text::first(m, n)));
 }
 
 // The state that the record after the message's first block makes, where its count is the last that is accepted.
 fn last_state(w: Width, m: &[u8]) -> State {
-    let s = fed(ripemd::fresh(w), text::first(m, 64));
-    match w {
-        Width::W160 => {
-            let mut out = [0u8; 28];
-            ripemd::export(s, &mut out);
-            words::bytes::put(&mut out, 20, 8, 0x007f_ffff_ffff_ffff);
-            let i = ripemd::import(w, &out);
-            i.state
-        }
-        Width::W320 => {
-            let mut out = [0u8; 48];
-            ripemd::export(s, &mut out);
-            words::bytes::put(&mut out, 40, 8, 0x007f_ffff_ffff_ffff);
-            let i = ripemd::import(w, &out);
-            i.state
-        }
-    }
+    let mut out = [0u8; 48];
+    front::export(fed(ripemd::fresh(w), text::first(m, 64)), &mut out);
+    words::bytes::put(&mut out, front::digest_length(w), 8, 0x007f_ffff_ffff_ffff);
+    let i = ripemd::import(w, text::first(&out, front::record_length(w)));
+    i.state
 }
 
 // The digest after n bytes more from there.
@@ -132,6 +108,8 @@ fn sample(w: Width) {
 }
 
 fn main() {
+    sample(Width::W128);
     sample(Width::W160);
+    sample(Width::W256);
     sample(Width::W320);
 }

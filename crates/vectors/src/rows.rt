@@ -3,16 +3,9 @@ use libc::STDOUT_FILENO;
 use ripemd::State;
 use ripemd::Width;
 
-fn bits(w: Width) -> u64 {
-    match w {
-        Width::W160 => 160,
-        Width::W320 => 320,
-    }
-}
-
 fn named(w: Width, kind: &[u8], name: &[u8], bytes: &[u8]) {
     let mut out = [0u8; 256];
-    let a = text::decimal(&mut out, 0, bits(w));
+    let a = text::decimal(&mut out, 0, 8 * front::digest_length(w) as u64);
     let b = text::bytes(&mut out, a, b" ");
     let c = text::bytes(&mut out, b, kind);
     let d = text::bytes(&mut out, c, b" ");
@@ -25,18 +18,9 @@ fn named(w: Width, kind: &[u8], name: &[u8], bytes: &[u8]) {
 
 // The digest of a state, under a name.
 pub fn digest(w: Width, kind: &[u8], name: &[u8], s: State) {
-    match w {
-        Width::W160 => {
-            let mut out = [0u8; 20];
-            ripemd::finish(s, &mut out);
-            named(w, kind, name, &out);
-        }
-        Width::W320 => {
-            let mut out = [0u8; 40];
-            ripemd::finish(s, &mut out);
-            named(w, kind, name, &out);
-        }
-    }
+    let mut out = [0u8; 40];
+    front::finish(s, &mut out);
+    named(w, kind, name, text::first(&out, front::digest_length(w)));
 }
 
 // The same under a number.
@@ -46,9 +30,16 @@ pub fn digest_at(w: Width, kind: &[u8], number: usize, s: State) {
     digest(w, kind, text::first(&name, n), s);
 }
 
-// A record, under a number.
-pub fn record_at(w: Width, number: usize, bytes: &[u8]) {
+// The record of a state, under a number.
+pub fn record_at(w: Width, number: usize, s: State) {
     let mut name = [0u8; 20];
     let n = text::decimal(&mut name, 0, number as u64);
-    named(w, b"record", text::first(&name, n), bytes);
+    let mut out = [0u8; 48];
+    front::export(s, &mut out);
+    named(
+        w,
+        b"record",
+        text::first(&name, n),
+        text::first(&out, front::record_length(w)),
+    );
 }

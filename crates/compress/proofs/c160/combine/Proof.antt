@@ -1,6 +1,7 @@
 -- `compress::c160::combine` meets its contract.
 -- Assumes nothing.
 use Rattle.lines.specs.Places.{named, namedPair}
+use Rattle.rounds.specs.Engine.{namesOf}
 use Rattle.compress.specs.Block.{combineOf}
 use borrow.Author.Needs.{needs}
 use Rattle.compress.proofs.c160.combine.Statement.{statement}
@@ -67,7 +68,7 @@ sum-requires-5 : tie.Need-sum-requires-5
 sum-requires-5 c κs = search needs
 
 returns : tie.Need-returns
-unfolding combineOf namedPair named
+unfolding combineOf namesOf namedPair named
 returns c =
     rw (
       c .sum5 .ensures,

@@ -2,6 +2,7 @@
 -- Assumes nothing.
 use mathlib.Core.Path.{refl}
 use Rattle.lines.specs.Places.{placedPair, placed}
+use Rattle.rounds.specs.Engine.{placesOf}
 use borrow.Author.Needs.{needs}
 use Rattle.compress.proofs.c160.start.Statement.{statement}
 use Rattle.compress.proofs.c160.start.Tie as tie
@@ -22,7 +23,7 @@ array-read-t18 : tie.Need-array-read-t18
 array-read-t18 c = search needs
 
 returns : tie.Need-returns
-unfolding placedPair placed
+unfolding placesOf placedPair placed
 returns c = refl
 
 pub start-spec : {M : Type 1} → statement M

@@ -1,6 +1,7 @@
 -- `compress::c320::combine` meets its contract.
 -- Assumes nothing.
 use Rattle.lines.specs.Places.{named, namedPair}
+use Rattle.rounds.specs.Engine.{namesOf}
 use Rattle.compress.specs.Block.{combineOf}
 use Rattle.compress.proofs.Ten.{ten}
 use borrow.Author.Needs.{needs}
@@ -98,7 +99,7 @@ add-requires-10 : tie.Need-add-requires-10
 add-requires-10 c κs = search needs
 
 returns : tie.Need-returns
-unfolding combineOf namedPair named
+unfolding combineOf namesOf namedPair named
 returns c =
     ten
     (c .before .before .before .before .before .before .before .before .before .add .ensures)

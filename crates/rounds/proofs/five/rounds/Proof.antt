@@ -1,40 +1,41 @@
--- `compress::rounds` meets its contract.
+-- `rounds::five::rounds` meets its contract.
 -- Assumes nothing.
 use mathlib.Core.Path.{_≡_}
 use lib.ListN.{length}
 use native.Mathlib.Omega.{arith}
-use Rattle.compress.proofs.Engine.{five-rounds}
+use Rattle.tables.specs.declared.Size.the-variants.{Five}
+use Rattle.rounds.proofs.Engine.{all-rounds}
 use borrow.Author.Needs.{needs}
-use Rattle.compress.proofs.rounds.Statement.{statement}
-use Rattle.compress.proofs.rounds.Tie as tie
+use Rattle.rounds.proofs.five.rounds.Statement.{statement}
+use Rattle.rounds.proofs.five.rounds.Tie as tie
 
--- each line has five registers
+-- each line has five places
 five : (s : tie.Start) → (length (s .args .p .left) ≡ 5) × (length (s .args .p .right) ≡ 5)
 five s = (search needs, search needs)
 
 walk-requires : tie.Need-walk-requires
-walk-requires c κs = search needs
+walk-requires c κs = (omega arith, c .pre)
 
 walk-requires-2 : tie.Need-walk-requires-2
-walk-requires-2 c κs = search needs
+walk-requires-2 c κs = (omega arith, c .before .pre)
 
 exchange-after-requires : tie.Need-exchange-after-requires
 exchange-after-requires c κs = search needs
 
 walk-requires-3 : tie.Need-walk-requires-3
-walk-requires-3 c κs = search needs
+walk-requires-3 c κs = (omega arith, c .before .before .before .pre)
 
 walk-requires-4 : tie.Need-walk-requires-4
-walk-requires-4 c κs = search needs
+walk-requires-4 c κs = (omega arith, c .before .before .before .before .pre)
 
 exchange-after-requires-2 : tie.Need-exchange-after-requires-2
 exchange-after-requires-2 c κs = search needs
 
 walk-requires-5 : tie.Need-walk-requires-5
-walk-requires-5 c κs = search needs
+walk-requires-5 c κs = (omega arith, c .before .before .before .before .before .before .pre)
 
 walk-requires-6 : tie.Need-walk-requires-6
-walk-requires-6 c κs = search needs
+walk-requires-6 c κs = (omega arith, c .before .before .before .before .before .before .before .pre)
 
 exchange-after-requires-3 : tie.Need-exchange-after-requires-3
 exchange-after-requires-3 c κs = search needs
@@ -77,7 +78,7 @@ returns c =
       c .before .before .before .before .before .before .before .before .before .before .before .before .exchange-after .ensures,
       c .before .before .before .before .before .before .before .before .before .before .before .before .before .walk2 .ensures,
       c .before .before .before .before .before .before .before .before .before .before .before .before .before .before .walk .ensures,
-    ) (five-rounds (a .w) (a .x .now) (a .p) (five s .0) (five s .1))
+    ) (all-rounds Five (a .exchanging) (a .x .now) (a .p) (five s .0) (five s .1))
 
 pub rounds-spec : {M : Type 1} → statement M
 rounds-spec =

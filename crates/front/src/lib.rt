@@ -1,0 +1,46 @@
+// The digest and the record of a state of any width, in the first bytes of a buffer with room for the largest: for programs that go over the
+// widths.
+ghost use mathlib.Core.Path.{_≡_};
+ghost use Prim.Native.Nat.{_≤_};
+ghost use lib.ListN.{length, take};
+ghost use Rattle.ripemd.specs.Digest.{digestLength};
+ghost use Rattle.ripemd.specs.Finish.{finishNumber, finishBytes};
+ghost use Rattle.ripemd.specs.Record.{recordLength, exportNumber, exportBytes};
+ghost use Rattle.front.specs.Front.{atFront};
+use ripemd::State;
+use ripemd::Width;
+
+pub fn digest_length(w: Width) -> usize
+    ensures { λ r. ⌜ (r ≡ digestLength w) × (r ≤ 40) ⌝ }
+{
+    4 * compress::used(w)
+}
+
+pub fn record_length(w: Width) -> usize
+    ensures { λ r. ⌜ (r ≡ recordLength w) × (r ≤ 48) ⌝ }
+{
+    4 * compress::used(w) + 8
+}
+
+// A buffer without room is lent whole, so that the library refuses it.
+pub fn finish(s: State, out: &mut [u8]) -> u32
+    ensures { λ r. ⌜ (r ≡ finishNumber s (length (take (digestLength (s .width)) (now (out .entry))))) × (now (out .exit) ≡ atFront (digestLength (s .width)) (finishBytes s) (now (out .entry))) ⌝ }
+{
+    let w = s.width;
+    let n = digest_length(w);
+    if out.len() < n {
+        return ripemd::finish(s, out);
+    }
+    ripemd::finish(s, &mut out[0..n])
+}
+
+pub fn export(s: State, out: &mut [u8]) -> u32
+    ensures { λ r. ⌜ (r ≡ exportNumber s (length (take (recordLength (s .width)) (now (out .entry))))) × (now (out .exit) ≡ atFront (recordLength (s .width)) (exportBytes s) (now (out .entry))) ⌝ }
+{
+    let w = s.width;
+    let n = record_length(w);
+    if out.len() < n {
+        return ripemd::export(s, out);
+    }
+    ripemd::export(s, &mut out[0..n])
+}
