@@ -12,6 +12,7 @@ ghost use Rattle.words.specs.Bytes.{wordsOf};
 ghost use Rattle.tables.specs.Rule.{Constants};
 ghost use Rattle.tables.specs.declared.Line.the-variants.{Left, Right};
 ghost use Rattle.rounds.specs.Engine.{placesOf, namesOf};
+ghost use Rattle.compress.specs.Engine.{widthFrom};
 ghost use Rattle.compress.specs.Block.{usedOf, sizeOf, initialOf, startOf, exchangesOf, combineOf, compressOf, blocksOf};
 use lines::Both;
 use tables::Line;
@@ -61,17 +62,6 @@ pub fn initial(w: Width) -> [u32; 10]
     }
 }
 
-fn start(w: Width, h: [u32; 10]) -> Both
-    ensures { λ r. ⌜ r ≡ placesOf (sizeOf w) (startOf w h) ⌝ }
-{
-    match w {
-        Width::W128 => c128::start(h),
-        Width::W160 => c160::start(h),
-        Width::W256 => c256::start(h),
-        Width::W320 => c320::start(h),
-    }
-}
-
 // Whether the lines exchange a register after each round.
 fn exchanges(w: Width) -> bool
     ensures { λ r. ⌜ r ≡ exchangesOf w ⌝ }
@@ -84,6 +74,25 @@ fn exchanges(w: Width) -> bool
     }
 }
 
+// Where the lines start. A size and an exchange tell the width, and the rounds are chosen by the same two: so the compiler parts the sizes here,
+// and joins them behind `combine`.
+fn start(z: Size, exchanging: bool, h: [u32; 10]) -> Both
+    ensures { λ r. ⌜ r ≡ placesOf z (startOf (widthFrom z exchanging) h) ⌝ }
+{
+    match z {
+        Size::Four => if exchanging {
+            c256::start(h)
+        } else {
+            c128::start(h)
+        },
+        Size::Five => if exchanging {
+            c320::start(h)
+        } else {
+            c160::start(h)
+        },
+    }
+}
+
 // Three words of a combination.
 fn sum(x: u32, y: u32, z: u32) -> u32
     ensures { λ r. ⌜ r ≡ addOf (addOf x y) z ⌝ }
@@ -91,14 +100,20 @@ fn sum(x: u32, y: u32, z: u32) -> u32
     words::add(words::add(x, y), z)
 }
 
-fn combine(w: Width, h: [u32; 10], p: Both) -> [u32; 10]
-    ensures { λ r. ⌜ r ≡ combineOf w h (namesOf (sizeOf w) p) ⌝ }
+fn combine(z: Size, exchanging: bool, h: [u32; 10], p: Both) -> [u32; 10]
+    ensures { λ r. ⌜ r ≡ combineOf (widthFrom z exchanging) h (namesOf z p) ⌝ }
 {
-    match w {
-        Width::W128 => c128::combine(h, p),
-        Width::W160 => c160::combine(h, p),
-        Width::W256 => c256::combine(h, p),
-        Width::W320 => c320::combine(h, p),
+    match z {
+        Size::Four => if exchanging {
+            c256::combine(h, p)
+        } else {
+            c128::combine(h, p)
+        },
+        Size::Five => if exchanging {
+            c320::combine(h, p)
+        } else {
+            c160::combine(h, p)
+        },
     }
 }
 
@@ -115,11 +130,11 @@ fn one_block(w: Width, h: &mut [u32; 10], block: &[u8], k: &[u32; 5], k2: &[u32;
     let r2 = tables::order::table(Line::Right);
     let s2 = tables::shift::table(Line::Right);
     let old = *h;
-    let p = start(w, old);
     let z = size(w);
     let exchanging = exchanges(w);
+    let p = start(z, exchanging, old);
     let q = rounds::rounds(z, exchanging, p, &x, &r, &s, k, &r2, &s2, k2);
-    *h = combine(w, old, q);
+    *h = combine(z, exchanging, old, q);
 }
 
 // One block of 64 bytes: h is the words before it, and then after it. Words that the width doesn't use come out zero.

@@ -1,1 +1,1 @@
-pub mod Short
+pub mod Fronts
