@@ -19,17 +19,17 @@ pub fn add(x: u32, y: u32) -> u32
     std::num::wrapping_add_u32(x, y)
 }
 
-// t plus function n of b, c and d, counted from 0. A step waits for b, the word that the step before it made, so b comes in last: the
-// second function is written with one use of b, and the two parts of the fourth, which share no bit, are added one by one.
+// t plus function n of b, c and d, counted from 0. The second chooses c or d by b, and the fourth b or c by d, in three operations each:
+// docs/DECISIONS.md has why.
 pub fn add_f(n: usize, t: u32, b: u32, c: u32, d: u32) -> u32
     requires { ⌜ n < 5 ⌝ }
     ensures { λ r. ⌜ r ≡ addOf t (fOf n b c d) ⌝ }
 {
     match n {
         0 => add(t, b ^ c ^ d),
-        1 => add(t, (b & (c ^ d)) ^ d),
+        1 => add(t, d ^ (b & (c ^ d))),
         2 => add(t, (b | !c) ^ d),
-        3 => add(add(t, c & !d), b & d),
+        3 => add(t, c ^ (d & (b ^ c))),
         _ => add(t, b ^ (c | !d)),
     }
 }
