@@ -20,7 +20,7 @@ use call::{Width, WIDTHS};
 use group::Group;
 use std::process::ExitCode;
 
-const GROUPS: [fn(Width) -> Group; 12] = [
+const GROUPS: [fn(Width) -> Group; 13] = [
     messages::vectors,
     messages::lengths,
     messages::finish_and_go_on,
@@ -29,6 +29,7 @@ const GROUPS: [fn(Width) -> Group; 12] = [
     refusals::high_counts,
     refusals::last_bytes,
     refusals::lengths_beyond_memory,
+    refusals::no_blocks,
     refusals::damaged_records,
     refusals::wrong_lengths,
     refusals::ill_formed,

@@ -9,14 +9,14 @@ pub struct Group {
     cases: u64,
     different: u64,
     case_differs: bool,
-    /// How often each number from 0 to 6 was the right answer.
-    pub numbers: [u64; 7],
+    /// How often each number from 0 to 7 was the right answer.
+    pub numbers: [u64; 8],
 }
 
 impl Group {
     pub fn new(name: impl Into<String>) -> Group {
         let name = name.into();
-        Group { name, calls: 0, cases: 0, different: 0, case_differs: false, numbers: [0; 7] }
+        Group { name, calls: 0, cases: 0, different: 0, case_differs: false, numbers: [0; 8] }
     }
 
     /// Begins the next case; what follows is counted for it.

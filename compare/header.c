@@ -51,6 +51,8 @@ static void hash(const struct width *w) {
 static void refusals(void) {
     ripemd_state state;
     uint8_t record[RIPEMD_160_RECORD_LENGTH], block[64] = {0};
+    memset(record, 0, sizeof record);
+    check("wiped record", ripemd_import160(&state, record, sizeof record) == RIPEMD_RECORD_WORDS);
     memset(record, 0xff, sizeof record);
     check("count", ripemd_import160(&state, record, sizeof record) == RIPEMD_RECORD_COUNT);
     check("record length", ripemd_import320(&state, record, sizeof record) == RIPEMD_RECORD_LENGTH);

@@ -79,6 +79,12 @@ impl State {
             && self.count < BLOCKS
             && self.tail[self.fill as usize..].iter().all(|byte| *byte == 0)
             && self.words[self.width.words()..].iter().all(|word| *word == 0)
+            && self.begins()
+    }
+
+    /// Without a block taken, the words are those of an empty message.
+    fn begins(&self) -> bool {
+        self.count != 0 || self.words == State::fresh(self.width).words
     }
 
     pub fn bytes_taken(&self) -> u128 {
@@ -180,6 +186,9 @@ fn import(image: &mut Image, width: Width, record: &[u8]) -> u32 {
     let state = State::of_record(width, record);
     if state.count >= BLOCKS {
         return 5;
+    }
+    if !state.begins() {
+        return 7;
     }
     *image = state.image();
     0

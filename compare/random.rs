@@ -129,7 +129,7 @@ pub fn sequences(seed: u64, calls: u64) -> Group {
             one_call(&mut group, &mut random, &mut image, &mut exported);
         }
     }
-    for number in 0..7 {
+    for number in 0..8 {
         let met = (group.numbers[number] > 0) as u32;
         group.number(&format!("whether number {number} came up"), met, 1);
     }

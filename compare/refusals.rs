@@ -4,9 +4,10 @@ use crate::call::{message, Call, Image, Input, Width};
 use crate::group::Group;
 use crate::model::{self, State, BLOCKS, BYTES};
 
-/// A record with the words that the message's first block leaves, and the count given.
+/// A record with the count given, and with the words that the message's first block leaves; with the
+/// initial words where no block is counted.
 fn record_at(width: Width, count: u64) -> Vec<u8> {
-    let block = message(64);
+    let block = message(if count == 0 { 0 } else { 64 });
     let image = model::answer(&State::fresh(width).image(), &Call::Feed(Input::Bytes(&block))).image;
     State { count, ..State::read(&image) }.record()
 }
@@ -120,6 +121,61 @@ pub fn lengths_beyond_memory(width: Width) -> Group {
     group
 }
 
+/// Words that are not the initial ones: each bit of each word flipped, each word zero, all of them zero,
+/// and those that the message's first block leaves.
+fn other_words(width: Width) -> Vec<[u32; 10]> {
+    let initial = State::fresh(width).words;
+    let mut all = vec![[0; 10], State::read(&image_at(width, 1, 0)).words];
+    for word in 0..width.words() {
+        for change in (0..32).map(|bit| 1 << bit).chain([initial[word]]) {
+            let mut words = initial;
+            words[word] ^= change;
+            all.push(words);
+        }
+    }
+    all
+}
+
+/// Records and images without a block: taken with the initial words, and with no other.
+pub fn no_blocks(width: Width) -> Group {
+    let mut group = Group::new(format!("no blocks, {}", width.bits()));
+    group.case();
+    let fresh = State::fresh(width);
+    let (number, image) = group.import(width, &fresh.record());
+    group.number("import of the initial words", number, 0);
+    group.same("state of the initial words", &image, &fresh.image());
+    for words in other_words(width) {
+        for (count, right) in [(0, 7), (1, 0), (BLOCKS, 5)] {
+            group.case();
+            let record = State { words, count, ..State::fresh(width) }.record();
+            let (number, image) = group.import(width, &record);
+            group.number("import of other words", number, right);
+            if right != 0 {
+                group.same("state after a refused import", &image, &fresh.image());
+            }
+            let (number, _) = group.import(width, &record[1..]);
+            group.number("import of a record cut short", number, 4);
+        }
+        for fill in [0, 1, 55, 63] {
+            for (count, right) in [(0, 6), (1, 0)] {
+                group.case();
+                let image = State { words, ..State::read(&image_at(width, count, fill)) }.image();
+                let number = group.feed(&mut image.clone(), b"abc").number;
+                group.number("feed", number, right);
+                group.every_call(&image);
+            }
+        }
+    }
+    for fill in 0..64 {
+        group.case();
+        let mut image = image_at(width, 0, fill);
+        let digest = group.digest(&mut image);
+        group.same("digest", &digest, &model::published(width, &message(fill)));
+        group.every_call(&State { words: [0; 10], ..State::read(&image) }.image());
+    }
+    group
+}
+
 pub fn damaged_records(width: Width) -> Group {
     let mut group = Group::new(format!("records with one bit flipped, {}", width.bits()));
     for count in [0, 1, BLOCKS - 1] {
@@ -142,7 +198,7 @@ pub fn wrong_lengths(width: Width) -> Group {
     for length in 0..=64 {
         group.case();
         for byte in [0, 0xff] {
-            // All ones have a count too high as well: the length must be told first.
+            // Zeros have a wrong start as well, and all ones a count too high: the length must be told first.
             let (number, _) = group.import(width, &vec![byte; length]);
             if length != width.record() {
                 group.number("import", number, 4);

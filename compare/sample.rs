@@ -7,6 +7,7 @@
 //!     last       n                               digest after a record with count 2^55 - 1 and the
 //!                                                words after the message's first 64 bytes was
 //!                                                imported and the message's first n bytes fed
+//!     import     wiped, or fresh                 number for a record of zeros, or of a fresh state
 #![allow(dead_code)]
 
 mod c128;
@@ -60,6 +61,13 @@ fn last_count(width: Width) {
     }
 }
 
+fn imports(width: Width) {
+    for (name, record) in [("wiped", vec![0; width.record()]), ("fresh", State::fresh(width).record())] {
+        let number = model::answer(&[0; 128], &Call::Import(width, &record)).number;
+        line(width, "import", name, &[number as u8]);
+    }
+}
+
 fn main() {
     for width in WIDTHS {
         vectors(width);
@@ -68,5 +76,6 @@ fn main() {
         }
         records(width);
         last_count(width);
+        imports(width);
     }
 }

@@ -53,7 +53,8 @@ enum ripemd_number {
     RIPEMD_OUTPUT_LENGTH = 3, /* the output is not exactly of the width's length */
     RIPEMD_RECORD_LENGTH = 4, /* the record is not exactly of the width's length */
     RIPEMD_RECORD_COUNT = 5,  /* the record's block count is 2^55 or more */
-    RIPEMD_ILL_FORMED = 6     /* the state is not well formed */
+    RIPEMD_ILL_FORMED = 6,    /* the state is not well formed */
+    RIPEMD_RECORD_WORDS = 7   /* the record's block count is 0, and its words are not the initial ones */
 };
 
 /*
@@ -67,9 +68,10 @@ enum ripemd_number {
  *     bytes 64-127   tail: the block that is not yet whole
  *
  * It is well formed when the count is below 2^55, the fill is at most 63,
- * the tail is zero from the fill on, and the words that the width doesn't use
- * are zero: width 128 uses words 0 to 3, 160 words 0 to 4, 256 words 0 to 7,
- * and 320 all ten.
+ * the tail is zero from the fill on, the words that the width doesn't use
+ * are zero (width 128 uses words 0 to 3, 160 words 0 to 4, 256 words 0 to 7,
+ * and 320 all ten) and, where the count is 0, the words are the width's
+ * initial ones, as a fresh state has them. So memory of zeros is no state.
  * Every call below leaves a well formed state so; only damage from outside
  * makes another.
  */
@@ -124,10 +126,12 @@ uint32_t ripemd_export(const ripemd_state *state, uint8_t *output, size_t n);
 /*
  * Sets the state to the one that a record of the width named was exported
  * from. What the memory held before does not matter.
- * Done: feeding and finishing go on from the record's words and count. Any
- * words are taken: a record damaged there cannot be told from a good one.
- * Refused, RIPEMD_RECORD_LENGTH then RIPEMD_RECORD_COUNT: the state is that
- * of an empty message at the width named.
+ * Done: feeding and finishing go on from the record's words and count. With
+ * a count other than 0 any words are taken: a record damaged there cannot be
+ * told from a good one.
+ * Refused, RIPEMD_RECORD_LENGTH then RIPEMD_RECORD_COUNT then
+ * RIPEMD_RECORD_WORDS: the state is that of an empty message at the width
+ * named.
  */
 uint32_t ripemd_import128(ripemd_state *state, const uint8_t *record, size_t n);
 uint32_t ripemd_import160(ripemd_state *state, const uint8_t *record, size_t n);

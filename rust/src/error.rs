@@ -19,16 +19,19 @@ pub enum Error {
     RecordCount = 5,
     /// The state is not well formed. Only a fault of the memory makes one.
     IllFormed = 6,
+    /// The record's block count is 0, and its words are not the width's initial ones.
+    RecordWords = 7,
 }
 
 impl Error {
-    const ALL: [Error; 6] = [
+    const ALL: [Error; 7] = [
         Error::TooLong,
         Error::MidBlock,
         Error::OutputLength,
         Error::RecordLength,
         Error::RecordCount,
         Error::IllFormed,
+        Error::RecordWords,
     ];
 
     /// The number that the library gives for this refusal, as in `include/ripemd.h`.
@@ -57,6 +60,7 @@ impl fmt::Display for Error {
             Error::RecordLength => "the record has the wrong length: take it whole: 24 bytes at width 128, 28 at 160, 40 at 256 and 48 at 320",
             Error::RecordCount => "the record's block count is 2^55 or more, so it is damaged: take another record",
             Error::IllFormed => "the state is damaged: reset it, or go on from a record",
+            Error::RecordWords => "the record has no blocks and words that no message has then, so it is damaged or was wiped: take another record",
         })
     }
 }

@@ -90,8 +90,9 @@ macro_rules! hasher {
                 Ok(record)
             }
 
-            /// A hasher that goes on from a record. Refused with [`Error::RecordLength`] or
-            /// [`Error::RecordCount`]; damage to the rest of a record cannot be seen.
+            /// A hasher that goes on from a record. Refused with [`Error::RecordLength`],
+            /// [`Error::RecordCount`] or [`Error::RecordWords`]; damage to the words of a record that
+            /// counts blocks cannot be seen.
             pub fn deserialize(record: &[u8]) -> Result<Self, Error> {
                 Ok(Self { image: ffi::import($width, record)? })
             }

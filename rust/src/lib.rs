@@ -49,6 +49,8 @@
 //!   the middle of a block. The old `Ripemd160` appended its part-filled block.
 //! - `deserialize` refuses a block count of 2^55 or more, and `update` a message of 2^61 bytes or
 //!   more: from there on the old crate's bit length overflowed.
+//! - `deserialize` refuses a block count of 0 with words other than the initial ones, such as a record
+//!   that was wiped to zeros. The old crate took it.
 //!
 //! # Building
 //!

@@ -63,6 +63,19 @@ macro_rules! records {
             }
 
             #[test]
+            fn no_blocks_and_other_words() {
+                assert_eq!($name::deserialize(&[0; RECORD]).unwrap_err(), Error::RecordWords);
+                let fresh = $name::new().serialize().unwrap();
+                for bit in 0..8 * DIGEST {
+                    let mut record = fresh;
+                    record[bit / 8] ^= 1 << (bit % 8);
+                    assert_eq!($name::deserialize(&record).unwrap_err(), Error::RecordWords);
+                    record[DIGEST] = 1;
+                    assert_eq!($name::deserialize(&record).unwrap().serialize(), Ok(record));
+                }
+            }
+
+            #[test]
             fn the_last_bytes_of_the_longest_message() {
                 let mut hasher = at_last_count();
                 let before = hasher.peek();
@@ -110,6 +123,7 @@ fn numbers_are_those_of_the_header() {
         ("RECORD_LENGTH", Error::RecordLength),
         ("RECORD_COUNT", Error::RecordCount),
         ("ILL_FORMED", Error::IllFormed),
+        ("RECORD_WORDS", Error::RecordWords),
     ] {
         assert!(header.contains(&format!("RIPEMD_{name} = {}", error.number())));
         assert!(

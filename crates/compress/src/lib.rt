@@ -7,7 +7,7 @@ mod c320;
 ghost use mathlib.Core.Path.{_≡_};
 ghost use Prim.Native.Nat.{_*_, _≤_};
 ghost use lib.ListN.{length};
-ghost use Rattle.words.specs.Words.{addOf};
+ghost use Rattle.words.specs.Words.{addOf, sameOf};
 ghost use Rattle.words.specs.Bytes.{wordsOf};
 ghost use Rattle.tables.specs.Rule.{Constants};
 ghost use Rattle.tables.specs.declared.Line.the-variants.{Left, Right};
@@ -59,6 +59,18 @@ pub fn initial(w: Width) -> [u32; 10]
         Width::W160 => c160::H0,
         Width::W256 => c256::H0,
         Width::W320 => c320::H0,
+    }
+}
+
+// Whether a message starts from the words h. A case for each width and two callers keep LLVM from inlining it: docs/DECISIONS.md has why.
+pub fn is_initial(w: Width, h: &[u32; 10]) -> bool
+    ensures { λ r. ⌜ r ≡ sameOf (now (h .entry)) (initialOf w) ⌝ }
+{
+    match w {
+        Width::W128 => words::same(h, &c128::H0),
+        Width::W160 => words::same(h, &c160::H0),
+        Width::W256 => words::same(h, &c256::H0),
+        Width::W320 => words::same(h, &c320::H0),
     }
 }
 

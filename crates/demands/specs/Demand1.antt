@@ -9,16 +9,18 @@ use mathlib.Core.List.{List, [], _∷_}
 use native.Mathlib.Omega.{arith}
 use borrow.Author.Tests.{eqb-true, eqb-false, leb-true, leb-false, not-true, not-false}
 use lib.Dec.{eqb, leb}
-use lib.ListN.{length, drop}
-use Rattle.compress.specs.Block.{usedOf}
+use lib.ListN.{length, drop, replicate}
+use Rattle.compress.specs.Block.{usedOf, initialOf}
 use Rattle.compress.specs.declared.Width.{Width}
+use Rattle.compress.specs.declared.Width.the-variants.{W128, W160, W256, W320}
 use Rattle.ripemd.specs.Refusals.{Row, _when_, found, first}
-use Rattle.ripemd.specs.State.{zeros, takenOf, WellFormed, faultOf, freshOf, between}
+use Rattle.ripemd.specs.State.{zeros, takenOf, wrongStart, WellFormed, faultOf, freshOf, between}
 use Rattle.ripemd.specs.Feed.{feedNumber, feedOf, fedState}
 use Rattle.ripemd.specs.Digest.{digestLength, published}
 use Rattle.ripemd.specs.Finish.{digestOf, finishNumber, finishBytes, oneShotNumber, oneShotBytes}
 use Rattle.ripemd.specs.Record.{recordLength, recordOf, wordsIn, countIn, exportNumber, exportBytes, importNumber, importOf}
 use Rattle.ripemd.specs.declared.State.{State}
+use Rattle.ripemd.proofs.Starts.{starts, starts-not}
 use Rattle.ripemd.proofs.Well.{well, no-fault}
 use Rattle.ripemd.proofs.Outcomes.{refused}
 use Rattle.demands.specs.Numbers.{number, nothing, Other, Decides, no-row, one-row, found-is}
@@ -36,17 +38,29 @@ least-row : (n a b : ℕ) (rs : List Row) (rest : Type 0 → ℕ → Type 0) →
 least-row n a b rs rest =
     one-row n (leb a b) (a ≤ b) rs rest (leb-true a b) (λ e k. let l = leb-false a b e in omega arith)
 
+start-row : (n : ℕ) (w : Width) (h : List ℕ) (c : ℕ) (rs : List Row) (rest : Type 0 → ℕ → Type 0) → Other rs n → Decides rs rest
+    → Decides ((n when wrongStart w h c) ∷ rs) (number n ((c ≡ 0) × (¬ (h ≡ initialOf w))) rest)
+start-row n w h c rs rest =
+    one-row n (wrongStart w h c) ((c ≡ 0) × (¬ (h ≡ initialOf w))) rs rest (starts-not w h c) (λ e k. k .1 (starts w h c e (k .0)))
+
 fault-six : (s : State) → ¬ (faultOf s ≡ 0) → faultOf s ≡ 6
 unfolding faultOf
-fault-six s = by-test (leb 64 (s .fill)) (leb (2 ^ 55) (s .count .0)) (not (zeros (drop (s .fill) (s .tail)))) (not (zeros (drop (usedOf (s .width)) (s .words))))
+fault-six s =
+    by-test
+    (leb 64 (s .fill))
+    (leb (2 ^ 55) (s .count .0))
+    (not (zeros (drop (s .fill) (s .tail))))
+    (not (zeros (drop (usedOf (s .width)) (s .words))))
+    (wrongStart (s .width) (s .words) (s .count .0))
   where
-    by-test : (a b c d : Bool) → ¬ (_≡_ {A = ℕ} (cond a 6 (cond b 6 (cond c 6 (cond d 6 0)))) 0)
-        → _≡_ {A = ℕ} (cond a 6 (cond b 6 (cond c 6 (cond d 6 0)))) 6
-    by-test true b c d n = refl
-    by-test false true c d n = refl
-    by-test false false true d n = refl
-    by-test false false false true n = refl
-    by-test false false false false n = absurd (n refl)
+    by-test : (a b c d e : Bool) → ¬ (_≡_ {A = ℕ} (cond a 6 (cond b 6 (cond c 6 (cond d 6 (cond e 6 0))))) 0)
+        → _≡_ {A = ℕ} (cond a 6 (cond b 6 (cond c 6 (cond d 6 (cond e 6 0))))) 6
+    by-test true b c d e n = refl
+    by-test false true c d e n = refl
+    by-test false false true d e n = refl
+    by-test false false false true e n = refl
+    by-test false false false false true n = refl
+    by-test false false false false false n = absurd (n refl)
 
 fault-row : (s : State) (rs : List Row) (rest : Type 0 → ℕ → Type 0) → Other rs 6 → Decides rs rest
     → number 6 (¬ WellFormed s) rest (Unit {0}) (first (found (faultOf s) ∷ rs))
@@ -97,17 +111,29 @@ pub export-refused : (s : State) (o : List ℕ) → ¬ (exportNumber s (length o
 unfolding exportBytes
 export-refused s o n = refused (exportNumber s (length o)) (recordOf s) o n
 
--- import: 4 for a record of another length, then 5 for a count of 2^55 or more
+-- import: 4 for a record of another length, then 5 for a count of 2^55 or more, then 7 for a count of 0 with words other than the initial ones
 pub import-numbers : (w : Width) (r : List ℕ)
-    → number 4 (¬ (length r ≡ recordLength w)) (number 5 (2 ^ 55 ≤ countIn w r) nothing) (Unit {0}) (importOf w r .number)
+    → number 4 (¬ (length r ≡ recordLength w))
+    (number 5 (2 ^ 55 ≤ countIn w r) (number 7 ((countIn w r ≡ 0) × (¬ (wordsIn w r ≡ initialOf w))) nothing))
+    (Unit {0})
+    (importOf w r .number)
 unfolding importOf importNumber
 import-numbers w r =
-    equal-row 4 (length r) (recordLength w) _ _ (λ e. omega arith, λ e. omega arith)
-    (least-row 5 (2 ^ 55) (countIn w r) [] nothing (λ e. omega arith) no-row) .on (Unit {0}) tt
+    equal-row 4 (length r) (recordLength w) _ _ (λ e. omega arith, (λ e. omega arith, λ e. omega arith))
+    (least-row 5 (2 ^ 55) (countIn w r) _ _ (λ e. omega arith, λ e. omega arith)
+    (start-row 7 w (wordsIn w r) (countIn w r) [] nothing (λ e. omega arith) no-row)) .on (Unit {0}) tt
 
 pub import-refused : (w : Width) (r : List ℕ) → ¬ (importOf w r .number ≡ 0) → importOf w r .state ≡ freshOf w
 unfolding importOf
 import-refused w r n = refused (importNumber w r) (between w (wordsIn w r) (countIn w r)) (freshOf w) n
+
+-- a record that was wiped to zeros
+pub wiped-record : (w : Width) → importOf w (replicate (recordLength w) 0) .number ≡ 7
+unfolding importOf importNumber wrongStart
+wiped-record W128 = refl
+wiped-record W160 = refl
+wiped-record W256 = refl
+wiped-record W320 = refl
 
 -- one_shot: 3, then 1 for a message of 2^61 bytes or more
 pub one-shot-numbers : (w : Width) (m o : List ℕ)

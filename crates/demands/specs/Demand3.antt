@@ -12,6 +12,7 @@ use lib.Dec.{leb}
 use lib.ListN.{length, length-append}
 use lib.Seq.{paste, paste-zero}
 use Rattle.words.specs.Bytes.{Below}
+use Rattle.words.proofs.Numbers.{below-parts}
 use Rattle.compress.specs.Block.{initialOf}
 use Rattle.compress.specs.declared.Width.{Width}
 use Rattle.ripemd.specs.State.{takenOf, faultOf, between, freshOf, moved}
@@ -28,15 +29,15 @@ use Rattle.ripemd.proofs.Outcomes.{accepted}
 use Rattle.ripemd.proofs.Ends.{digest-from, from-nothing}
 use Rattle.ripemd.proofs.Kept.{Sound, sound-fine, fresh-sound, fed-width, fed-sound, fed-taken}
 use Rattle.ripemd.proofs.Calls.{feed-takes, feed-long, finish-right, export-right, export-part, export-full}
-use Rattle.ripemd.proofs.Resumed.{import-takes, import-sound, record-again, import-zero, import-export}
+use Rattle.ripemd.proofs.Resumed.{Importable, import-takes, import-sound, record-again, import-zero, import-export}
 use Rattle.demands.specs.Demand1.{feed-refused, export-refused}
 
--- s is reached from s₀ with the message m: by pieces that feed takes, and by calls that add nothing to the message
+-- s is reached from s₀ with the message m: by pieces, of bytes, that feed takes, and by calls that add nothing to the message
 pub data Reach (s₀ : State) : List ℕ → State → Type 0 where
   -- nothing was called
   start : Reach s₀ [] s₀
   -- a piece was taken
-  fed : (m p : List ℕ) (s : State) → Reach s₀ m s → feedOf s p .number ≡ 0 → Reach s₀ (m ++ p) (feedOf s p .state)
+  fed : (m p : List ℕ) (s : State) → Reach s₀ m s → Below 256 p → feedOf s p .number ≡ 0 → Reach s₀ (m ++ p) (feedOf s p .state)
   -- a piece was refused
   not-fed : (m p : List ℕ) (s : State) → Reach s₀ m s → ¬ (feedOf s p .number ≡ 0) → Reach s₀ m (feedOf s p .state)
   -- finish or export was called, whatever its number: no state comes back, so the caller goes on with its own
@@ -81,12 +82,12 @@ again s o k e =
     ap (importOf (s .width)) (accepted (exportNumber s (length o)) (recordOf s) o e) ∙ import-export s k (export-full s (length o) e)
 
 module _ (s₀ : State) (k₀ : Sound s₀) where
-  held-fed : (m p : List ℕ) (s : State) → Held s₀ m s → takenOf s + length p < 2 ^ 61 → Held s₀ (m ++ p) (fedState s p)
-  held-fed m p s k h =
+  held-fed : (m p : List ℕ) (s : State) → Held s₀ m s → Below 256 p → takenOf s + length p < 2 ^ 61 → Held s₀ (m ++ p) (fedState s p)
+  held-fed m p s k b h =
       let la = length-append m p in
       let t = fed-taken s p (k .sound) in
       record {
-        sound = fed-sound s p (k .sound) h;
+        sound = fed-sound s p (k .sound) h b;
         room = omega (arith, k .taken);
         taken = omega (arith, k .taken);
         width = fed-width s p ∙ k .width;
@@ -102,10 +103,10 @@ module _ (s₀ : State) (k₀ : Sound s₀) where
         width = refl;
         is = sym (fed-none s₀ k₀);
       }
-  held (fed m p s r z) = after (held r)
+  held (fed m p s r b z) = after (held r)
     where
       after : Held s₀ m s → Held s₀ (m ++ p) (feedOf s p .state)
-      after k = let t = took s p (k .sound) z in subst (Held s₀ (m ++ p)) (sym (t .1)) (held-fed m p s k (t .0))
+      after k = let t = took s p (k .sound) z in subst (Held s₀ (m ++ p)) (sym (t .1)) (held-fed m p s k b (t .0))
   held (not-fed m p s r n) = subst (Held s₀ m) (sym (feed-refused s p n)) (held r)
   held (read m s r) = held r
   held (resumed m o s r e) = after (held r)
@@ -186,7 +187,7 @@ module _ (w : Width) {m : List ℕ} {s : State} (r : Reach (freshOf w) m s) wher
       × (¬ (length m % 64 ≡ 0) → (exportNumber s (length o) ≡ 2) × (exportBytes s o ≡ o))
   reached-export o l = chain-export w (initialOf w) 0 (fresh-sound w) r o l
 
--- ---- any cut of a message under 2^61 bytes is reached, so that these theorems are not of nothing
+-- ---- any cut of a message of bytes, fewer than 2^61, is reached, so that these theorems are not of nothing
 abbrev pub feedAll : State → List (List ℕ) → State
 feedAll s [] = s
 feedAll s (p ∷ ps) = feedAll (feedOf s p .state) ps
@@ -195,30 +196,29 @@ abbrev pub joined : List (List ℕ) → List ℕ
 joined [] = []
 joined (p ∷ ps) = p ++ joined ps
 
-cut-reached : (w : Width) (ps : List (List ℕ)) (m : List ℕ) (s : State) → Reach (freshOf w) m s → length m + length (joined ps) < 2 ^ 61
-    → Reach (freshOf w) (m ++ joined ps) (feedAll s ps)
-cut-reached w [] m s r h = subst (λ (l : List ℕ). Reach (freshOf w) l s) (sym (append-nil m)) r
-cut-reached w (p ∷ ps) m s r h =
+cut-reached : (w : Width) (ps : List (List ℕ)) (m : List ℕ) (s : State) → Reach (freshOf w) m s → Below 256 (joined ps)
+    → length m + length (joined ps) < 2 ^ 61 → Reach (freshOf w) (m ++ joined ps) (feedAll s ps)
+cut-reached w [] m s r b h = subst (λ (l : List ℕ). Reach (freshOf w) l s) (sym (append-nil m)) r
+cut-reached w (p ∷ ps) m s r b h =
     let la = length-append p (joined ps) in
     let lm = length-append m p in
+    let d = below-parts 256 p (joined ps) b in
     subst (λ (l : List ℕ). Reach (freshOf w) l (feedAll (feedOf s p .state) ps)) (append-assoc m p (joined ps))
-    (cut-reached w ps (m ++ p) (feedOf s p .state) (fed m p s r (reached-feed w r p .0 (omega arith))) (omega arith))
+    (cut-reached w ps (m ++ p) (feedOf s p .state) (fed m p s r (d .0) (reached-feed w r p .0 (omega arith))) (d .1) (omega arith))
 
 -- cut anywhere, empty pieces allowed: the published digest of the whole
-pub cut-anywhere : (w : Width) (ps : List (List ℕ)) (o : List ℕ) → length (joined ps) < 2 ^ 61 → length o ≡ digestLength w
+pub cut-anywhere : (w : Width) (ps : List (List ℕ)) (o : List ℕ) → Below 256 (joined ps) → length (joined ps) < 2 ^ 61
+    → length o ≡ digestLength w
     → (finishNumber (feedAll (freshOf w) ps) (length o) ≡ 0) × (finishBytes (feedAll (freshOf w) ps) o ≡ published w (joined ps))
-cut-anywhere w ps o h l = reached-finish w (cut-reached w ps [] (freshOf w) start (omega arith)) o l
+cut-anywhere w ps o b h l = reached-finish w (cut-reached w ps [] (freshOf w) start b (omega arith)) o l
 
 -- ---- from any record r, of bytes, that import accepts
 module _ (w : Width) (r : List ℕ) (b : Below 256 r) (ok : importOf w r .number ≡ 0) where
-  l : length r ≡ recordLength w
-  l = import-zero w r ok .0
-
-  c : countIn w r < 2 ^ 55
-  c = import-zero w r ok .1
+  good : Importable w r
+  good = import-zero w r ok
 
   is : importOf w r .state ≡ between w (wordsIn w r) (countIn w r)
-  is = ap (λ (i : Imported). i .state) (import-takes w r l c)
+  is = ap (λ (i : Imported). i .state) (import-takes w r good)
 
   from-words : {m : List ℕ} {s : State} → Reach (importOf w r .state) m s → Reach (between w (wordsIn w r) (countIn w r)) m s
   from-words {m} {s} q = subst (λ (t : State). Reach t m s) is q
@@ -229,15 +229,19 @@ module _ (w : Width) (r : List ℕ) (b : Below 256 r) (ok : importOf w r .number
   unfolding exportBytes
   record-same o lo =
       let t = between w (wordsIn w r) (countIn w r) in
-      let e = export-right t (sound-fine (import-sound w r l c b)) (length o) lo refl in
-      rw is (e, accepted (exportNumber t (length o)) (recordOf t) o e ∙ record-again w r l c b)
+      let e = export-right t (sound-fine (import-sound w r good b)) (length o) lo refl in
+      rw is (e, accepted (exportNumber t (length o)) (recordOf t) o e ∙ record-again w r good b)
+
+  -- where it counts no blocks, it is a fresh one
+  pub record-fresh : countIn w r ≡ 0 → importOf w r .state ≡ freshOf w
+  record-fresh z = is ∙ ap (λ (h : List ℕ). between w h (countIn w r)) (good .start z) ∙ ap (between w (initialOf w)) z
 
   -- feeding and finishing continue the chain from its words, with the length counted from its count
   pub record-finish : {m : List ℕ} {s : State} → Reach (importOf w r .state) m s → (o : List ℕ) → length o ≡ digestLength w
       → (finishNumber s (length o) ≡ 0) × (finishBytes s o ≡ continued w (wordsIn w r) (countIn w r) m)
-  record-finish q o lo = chain-finish w (wordsIn w r) (countIn w r) (import-sound w r l c b) (from-words q) o lo
+  record-finish q o lo = chain-finish w (wordsIn w r) (countIn w r) (import-sound w r good b) (from-words q) o lo
 
   pub record-feed : {m : List ℕ} {s : State} → Reach (importOf w r .state) m s → (p : List ℕ)
       → (64 * countIn w r + length m + length p < 2 ^ 61 → feedOf s p .number ≡ 0)
       × (2 ^ 61 ≤ 64 * countIn w r + length m + length p → feedOf s p ≡ record { number = 1; state = s })
-  record-feed q p = chain-feed w (wordsIn w r) (countIn w r) (import-sound w r l c b) (from-words q) p
+  record-feed q p = chain-feed w (wordsIn w r) (countIn w r) (import-sound w r good b) (from-words q) p

@@ -12,12 +12,12 @@ use lib.Seq.{drop-at}
 use Rattle.words.specs.Words.{rolOf}
 use Rattle.words.specs.Bytes.{bytesOf, numberOf, Below}
 use Rattle.words.specs.Examples.{t11}
-use Rattle.words.proofs.Numbers.{length-bytes}
+use Rattle.words.proofs.Numbers.{length-bytes, below-append}
 use Rattle.lines.specs.Examples.{first, t12}
 use Rattle.compress.specs.Block.{usedOf, blocksOf}
 use Rattle.compress.specs.declared.Width.{Width}
 use Rattle.compress.specs.declared.Width.the-variants.{W160}
-use Rattle.ripemd.specs.State.{takenOf, faultOf, freshOf, between}
+use Rattle.ripemd.specs.State.{takenOf, wrongStart, faultOf, freshOf, between}
 use Rattle.ripemd.specs.Feed.{feedNumber, feedOf, fedState}
 use Rattle.ripemd.specs.Finish.{padCount, padOf}
 use Rattle.ripemd.specs.Record.{recordLength, recordOf, wordsIn, countIn, exportNumber, importNumber, importOf}
@@ -26,7 +26,7 @@ use Rattle.ripemd.specs.declared.Fed.{Fed}
 use Rattle.ripemd.specs.declared.Imported.{Imported}
 use Rattle.ripemd.proofs.Calls.{feed-takes, feed-long}
 use Rattle.ripemd.proofs.Kept.{sound-fine, fresh-sound, fed-taken}
-use Rattle.ripemd.proofs.Resumed.{import-takes, import-sound}
+use Rattle.ripemd.proofs.Resumed.{Importable, import-takes, import-sound}
 
 -- the last eight bytes of what a fresh state that was fed m is padded to
 abbrev pub lengthBytes : Width → List ℕ → List ℕ
@@ -72,15 +72,18 @@ module _ (w : Width) (ws cs : List ℕ) (l : length ws ≡ 4 * usedOf w) (l8 : l
   unfolding importOf importNumber
   count-high h = rw (eq-eqb (length (ws ++ cs)) (recordLength w) long, le-leb (2 ^ 55) (countIn w (ws ++ cs)) (omega (arith, count-is)))
 
-  module _ (h : numberOf (take 8 cs) < 2 ^ 55) where
+  module _ (h : numberOf (take 8 cs) < 2 ^ 55) (some : 0 < numberOf (take 8 cs)) where
+    good : Importable w (ws ++ cs)
+    good = record { long = long; count = omega (arith, count-is); start = λ z. absurd (omega (arith, count-is)) }
+
     count-low : importOf w (ws ++ cs) ≡ record { number = 0; state = between w (wordsIn w (ws ++ cs)) (countIn w (ws ++ cs)) }
-    count-low = import-takes w (ws ++ cs) long (omega (arith, count-is))
+    count-low = import-takes w (ws ++ cs) good
 
     low-taken : takenOf (importOf w (ws ++ cs) .state) ≡ 64 * numberOf (take 8 cs)
     low-taken = ap (λ (i : Imported). takenOf (i .state)) count-low ∙ (omega (arith, count-is))
 
     low-fine : Below 256 (ws ++ cs) → faultOf (importOf w (ws ++ cs) .state) ≡ 0
-    low-fine b = rw count-low (sound-fine (import-sound w (ws ++ cs) long (omega (arith, count-is)) b))
+    low-fine b = rw count-low (sound-fine (import-sound w (ws ++ cs) good b))
 
     -- fed p, while the bytes stay below 2^61 and where they don't
     fed-low : Below 256 (ws ++ cs) → (p : List ℕ) → 64 * numberOf (take 8 cs) + length p < 2 ^ 61 → feedOf (importOf w (ws ++ cs) .state) p .number ≡ 0
@@ -89,17 +92,12 @@ module _ (w : Width) (ws cs : List ℕ) (l : length ws ≡ 4 * usedOf w) (l8 : l
     fed-high : Below 256 (ws ++ cs) → (p : List ℕ) → 2 ^ 61 ≤ 64 * numberOf (take 8 cs) + length p → feedOf (importOf w (ws ++ cs) .state) p .number ≡ 1
     fed-high b p g = ap (λ (f : Fed). f .number) (feed-long (importOf w (ws ++ cs) .state) (low-fine b) p (omega (arith, low-taken)))
 
--- bytes before bytes
-below-append : (a b : List ℕ) → Below 256 a → Below 256 b → Below 256 (a ++ b)
-below-append [] b p q = q
-below-append (x ∷ a) b (h, p) q = (h, below-append a b p q)
-
 fresh-record : recordOf (freshOf W160) ≡ freshRecord
 unfolding recordOf
 fresh-record = refl
 
 one-byte : (b : ℕ) → exportNumber (feedOf (freshOf W160) (b ∷ []) .state) 27 ≡ 3
-unfolding exportNumber feedOf feedNumber fedState faultOf blocksOf
+unfolding exportNumber feedOf feedNumber fedState faultOf wrongStart blocksOf
 one-byte b = refl
 
 -- for each width, message m and word bytes ws of a record
@@ -120,7 +118,7 @@ pub table : (w : Width) (m ws : List ℕ) → length ws ≡ 4 * usedOf w → Bel
     × ((getD first 0 0 ≡ 0x1602f864) × (getD first 2 0 ≡ 0xeb73fa62))  -- T12
     × ((b : ℕ) → exportNumber (feedOf (freshOf W160) (b ∷ []) .state) 27 ≡ 3)  -- T13
 table w m ws l b =
-    let t : Below 256 (ws ++ topCount) = below-append ws topCount b (search needs) in (
+    let t : Below 256 (ws ++ topCount) = below-append 256 ws topCount b (search needs) in (
       refl,
       refl,
       refl,
@@ -130,9 +128,9 @@ table w m ws l b =
       λ e. length-bytes-are w m (2 ^ 61 - 1) e,
       fresh-record,
       count-high w ws highCount l refl (lit≤ tt),
-      ap (λ (i : Imported). i .number) (count-low w ws topCount l refl (lit< tt)),
-      λ e. fed-low w ws topCount l refl (lit< tt) t m (omega arith),
-      λ e. fed-high w ws topCount l refl (lit< tt) t m (omega arith),
+      ap (λ (i : Imported). i .number) (count-low w ws topCount l refl (lit< tt) (lit< tt)),
+      λ e. fed-low w ws topCount l refl (lit< tt) (lit< tt) t m (omega arith),
+      λ e. fed-high w ws topCount l refl (lit< tt) (lit< tt) t m (omega arith),
       t11,
       t12,
       one-byte,

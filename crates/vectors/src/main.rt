@@ -92,6 +92,20 @@ fn last(w: Width, m: &[u8], n: usize) {
     rows::digest_at(w, b"last", n, fed(last_state(w, m), text::first(m, n)));
 }
 
+// The number of import for the record that is the front of out.
+fn imported(w: Width, name: &[u8], out: &[u8]) {
+    let i = ripemd::import(w, text::first(out, front::record_length(w)));
+    rows::number(w, name, i.number);
+}
+
+// For the record of a fresh state, and for one that was wiped to zeros.
+fn imports(w: Width) {
+    let mut out = [0u8; 48];
+    imported(w, b"wiped", &out);
+    front::export(ripemd::fresh(w), &mut out);
+    imported(w, b"fresh", &out);
+}
+
 fn sample(w: Width) {
     let m = message();
     vectors(w);
@@ -105,6 +119,7 @@ fn sample(w: Width) {
     last(w, &m, 55);
     last(w, &m, 56);
     last(w, &m, 63);
+    imports(w);
 }
 
 fn main() {

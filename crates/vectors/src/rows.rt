@@ -43,3 +43,10 @@ pub fn record_at(w: Width, number: usize, s: State) {
         text::first(&out, front::record_length(w)),
     );
 }
+
+// A number of import, under a name.
+pub fn number(w: Width, name: &[u8], n: u32) {
+    let mut out = [0u8; 1];
+    words::bytes::put(&mut out, 0, 1, n as u64);
+    named(w, b"import", name, &out);
+}

@@ -138,6 +138,19 @@ below-drop b zero l a = a
 below-drop b (suc n) [] a = tt
 below-drop b (suc n) (x ∷ l) (h, a) = below-drop b n l a
 
+pub below-append : (n : ℕ) (a b : List ℕ) → Below n a → Below n b → Below n (a ++ b)
+below-append n [] b p q = q
+below-append n (x ∷ a) b (h, p) q = (h, below-append n a b p q)
+
+-- there and back
+pub below-parts : (n : ℕ) (a b : List ℕ) → Below n (a ++ b) → Below n a × Below n b
+below-parts n [] b q = (tt, q)
+below-parts n (x ∷ a) b (h, q) = let r = below-parts n a b q in ((h, r .0), r .1)
+
+pub below-zeros : (n m : ℕ) → 0 < n → Below n (replicate m 0)
+below-zeros n zero h = tt
+below-zeros n (suc m) h = (h, below-zeros n m h)
+
 -- words that are read, written again
 pub words-again : (n : ℕ) (l : List ℕ) → Below 256 l → 4 * n ≤ length l → wordBytes (wordsOf n l) ≡ take (4 * n) l
 words-again zero l a h = refl

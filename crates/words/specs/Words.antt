@@ -1,7 +1,10 @@
 -- 32-bit words, as the RIPEMD-160 paper has them: numbers below 2^32, their sum, the cyclic shift, and the five functions.
 -- Assumes nothing.
 use Prim.Native.Nat.{ℕ, zero, suc, _+_, _-_, _*_, _/_, _%_, _^_}
+use mathlib.Core.Bool.{Bool, true, false, _&&_}
+use mathlib.Core.List.{List, [], _∷_}
 use lib.Bits.{bitAnd, bitOr, bitXor}
+use lib.Dec.{eqb}
 
 -- addition modulo 2^32
 abbrev pub addOf : ℕ → ℕ → ℕ
@@ -22,3 +25,10 @@ fOf (suc zero) x y z = bitOr (bitAnd x y) (bitAnd (notOf x) z)
 fOf (suc (suc zero)) x y z = bitXor (bitOr x (notOf y)) z
 fOf (suc (suc (suc zero))) x y z = bitOr (bitAnd x z) (bitAnd y (notOf z))
 fOf (suc (suc (suc (suc n)))) x y z = bitXor x (bitOr y (notOf z))
+
+-- whether two lists are the same, word by word
+abbrev pub sameOf : List ℕ → List ℕ → Bool
+sameOf [] [] = true
+sameOf [] (y ∷ ys) = false
+sameOf (x ∷ xs) [] = false
+sameOf (x ∷ xs) (y ∷ ys) = eqb x y && sameOf xs ys

@@ -1,9 +1,10 @@
-// 32-bit words: addition modulo 2^32, the cyclic shift, and a sum with one of the paper's five functions.
+// 32-bit words: addition modulo 2^32, the cyclic shift, a sum with one of the paper's five functions, and whether words are the same.
 pub mod bytes;
 
 ghost use mathlib.Core.Path.{_≡_};
 ghost use Prim.Native.Nat.{_<_};
-ghost use Rattle.words.specs.Words.{addOf, rolOf, fOf};
+ghost use lib.ListN.{length};
+ghost use Rattle.words.specs.Words.{addOf, rolOf, fOf, sameOf};
 
 // Both amounts are taken modulo 32, so that LLVM sees one rotation.
 pub fn rol(x: u32, s: u32) -> u32
@@ -32,4 +33,19 @@ pub fn add_f(n: usize, t: u32, b: u32, c: u32, d: u32) -> u32
         3 => add(t, c ^ (d & (b ^ c))),
         _ => add(t, b ^ (c | !d)),
     }
+}
+
+// Whether a and b, of one length, are the same words.
+pub fn same(a: &[u32], b: &[u32]) -> bool
+    requires { ⌜ length (now a) ≡ length (now b) ⌝ }
+    ensures { λ r. ⌜ r ≡ sameOf (now (a .entry)) (now (b .entry)) ⌝ }
+{
+    let mut i = 0;
+    while i < a.len() {
+        if a[i] != b[i] {
+            return false;
+        }
+        i += 1;
+    }
+    true
 }
