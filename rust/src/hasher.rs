@@ -91,8 +91,7 @@ macro_rules! hasher {
             }
 
             /// A hasher that goes on from a record. Refused with [`Error::RecordLength`],
-            /// [`Error::RecordCount`] or [`Error::RecordWords`]; damage to the words of a record that
-            /// counts blocks cannot be seen.
+            /// [`Error::RecordCount`] or [`Error::RecordWords`]; other damage to a record cannot be seen.
             pub fn deserialize(record: &[u8]) -> Result<Self, Error> {
                 Ok(Self { image: ffi::import($width, record)? })
             }
