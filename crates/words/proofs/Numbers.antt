@@ -142,7 +142,7 @@ pub below-append : (n : ℕ) (a b : List ℕ) → Below n a → Below n b → Be
 below-append n [] b p q = q
 below-append n (x ∷ a) b (h, p) q = (h, below-append n a b p q)
 
--- there and back
+-- and of a joined list both parts
 pub below-parts : (n : ℕ) (a b : List ℕ) → Below n (a ++ b) → Below n a × Below n b
 below-parts n [] b q = (tt, q)
 below-parts n (x ∷ a) b (h, q) = let r = below-parts n a b q in ((h, r .0), r .1)
