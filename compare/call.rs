@@ -72,31 +72,47 @@ pub enum Call<'a> {
     Export(usize),
     Import(Width, &'a [u8]),
     OneShot(Width, Input<'a>, usize),
+    SheetLength,
+    WriteSheet(usize),
+    ReadSheet(&'a [u8]),
 }
 
 impl<'a> Call<'a> {
     pub fn input(&self) -> Input<'a> {
         match *self {
             Call::Feed(input) | Call::OneShot(_, input, _) => input,
-            Call::Import(_, record) => Input::Bytes(record),
+            Call::Import(_, lent) | Call::ReadSheet(lent) => Input::Bytes(lent),
             _ => Input::Bytes(&[]),
         }
     }
 
-    /// The lent output as it is before the call, unlike any digest.
-    pub fn output(&self) -> Vec<u8> {
+    fn output_length(&self) -> usize {
         match *self {
-            Call::Finish(length) | Call::Export(length) | Call::OneShot(_, _, length) => (0..length).map(|at| 0xa5 ^ at as u8).collect(),
-            _ => Vec::new(),
+            Call::Finish(length) | Call::Export(length) | Call::OneShot(_, _, length) | Call::WriteSheet(length) => length,
+            _ => 0,
+        }
+    }
+
+    /// The lent output as it is before the call, unlike any digest or sheet.
+    pub fn output(&self) -> Vec<u8> {
+        (0..self.output_length()).map(|at| 0xa5 ^ at as u8).collect()
+    }
+
+    /// The value's memory as it is before the call, unlike any length or place; 0 where the call gives
+    /// no value.
+    pub fn value(&self) -> u64 {
+        match self {
+            Call::SheetLength | Call::ReadSheet(_) => 0xa5a5_a5a5_a5a5_a5a5,
+            _ => 0,
         }
     }
 
     pub fn lends_an_empty_slice(&self) -> bool {
         match *self {
-            Call::Fresh(_) | Call::Reset => false,
+            Call::Fresh(_) | Call::Reset | Call::SheetLength => false,
             Call::Feed(piece) => piece.length() == 0,
-            Call::Finish(length) | Call::Export(length) => length == 0,
-            Call::Import(_, record) => record.is_empty(),
+            Call::Finish(length) | Call::Export(length) | Call::WriteSheet(length) => length == 0,
+            Call::Import(_, lent) | Call::ReadSheet(lent) => lent.is_empty(),
             Call::OneShot(_, message, length) => message.length() == 0 || length == 0,
         }
     }
@@ -113,12 +129,16 @@ impl fmt::Display for Call<'_> {
             Call::Export(length) => write!(f, "export into {length} bytes")?,
             Call::Import(width, _) => write!(f, "import{}", width.bits())?,
             Call::OneShot(width, _, length) => write!(f, "one_shot{} into {length} bytes", width.bits())?,
+            Call::SheetLength => write!(f, "sheet_length")?,
+            Call::WriteSheet(length) => write!(f, "write_sheet into {length} bytes")?,
+            Call::ReadSheet(_) => write!(f, "read_sheet")?,
         }
         match self.input() {
             Input::Bytes([]) => Ok(()),
             Input::Bytes(bytes) => {
-                // Long enough for every random piece; only the million letters are longer.
-                let shown = hex(&bytes[..bytes.len().min(3000)]);
+                // Long enough for every random piece; only the million letters and some texts are longer.
+                let beginning = &bytes[..bytes.len().min(3000)];
+                let shown = if let Call::ReadSheet(_) = self { quoted(beginning) } else { hex(beginning) };
                 write!(f, ", input of {} bytes {shown}", bytes.len())
             }
             Input::Claimed(length) => write!(f, ", input said to be of {length} bytes"),
@@ -132,14 +152,16 @@ pub struct Answer {
     pub number: u32,
     pub image: Image,
     pub output: Vec<u8>,
+    /// What sheet_length gives, or the place that read_sheet writes; 0 for every other call.
+    pub value: u64,
     /// Whether a byte beside the lent ones, or one lent to be read, was changed.
     pub spilt: bool,
 }
 
 impl fmt::Display for Answer {
     fn fmt(&self, f: &mut fmt::Formatter<'_>) -> fmt::Result {
-        let output = hex(&self.output);
-        write!(f, "number {} state {} output {output}", self.number, hex(&self.image))?;
+        let output = if self.output.is_ascii() { quoted(&self.output) } else { hex(&self.output) };
+        write!(f, "number {} value {} state {} output {output}", self.number, self.value, hex(&self.image))?;
         if self.spilt {
             write!(f, " and bytes changed that were not lent for it")?;
         }
@@ -153,5 +175,16 @@ pub fn message(length: usize) -> Vec<u8> {
 }
 
 pub fn hex(bytes: &[u8]) -> String {
-    bytes.iter().map(|byte| format!("{byte:02x}")).collect()
+    let digits = bytes.iter().flat_map(|byte| [byte >> 4, byte & 15]);
+    digits.map(|digit| char::from_digit(digit.into(), 16).unwrap()).collect()
+}
+
+/// The bytes that are written in hex.
+pub fn bytes(hex: &str) -> Vec<u8> {
+    let pairs = (0..hex.len()).step_by(2).map(|at| &hex[at..at + 2]);
+    pairs.map(|pair| u8::from_str_radix(pair, 16).unwrap()).collect()
+}
+
+fn quoted(text: &[u8]) -> String {
+    format!("\"{}\"", text.escape_ascii())
 }

@@ -15,12 +15,14 @@ mod model;
 mod published;
 mod random;
 mod refusals;
+mod sheet;
+mod sheets;
 
 use call::{Width, WIDTHS};
 use group::Group;
 use std::process::ExitCode;
 
-const GROUPS: [fn(Width) -> Group; 13] = [
+const GROUPS: [fn(Width) -> Group; 19] = [
     messages::vectors,
     messages::lengths,
     messages::finish_and_go_on,
@@ -34,6 +36,12 @@ const GROUPS: [fn(Width) -> Group; 13] = [
     refusals::wrong_lengths,
     refusals::ill_formed,
     refusals::flipped_images,
+    sheets::after_every_byte,
+    sheets::counts_and_fills,
+    sheets::no_blocks,
+    sheets::byte_values,
+    sheets::named_places,
+    sheets::damaged,
 ];
 
 fn main() -> ExitCode {
@@ -44,13 +52,20 @@ fn main() -> ExitCode {
         return ExitCode::FAILURE;
     };
     println!("seed {seed}, {calls} random calls");
-    let mut equal = refusals::table().end();
+    let (mut equal, mut written, mut read) = (true, 0, 0);
+    let mut end = |group: Group| {
+        equal &= group.end();
+        written += group.sheets_written;
+        read += group.sheets_read;
+    };
+    end(refusals::table());
     for group in GROUPS {
         for width in WIDTHS {
-            equal &= group(width).end();
+            end(group(width));
         }
     }
-    equal &= random::sequences(seed, calls).end();
+    end(random::sequences(seed, calls));
+    println!("sheets written {written}, read {read}");
     println!("{}", if equal { "all equal" } else { "DIFFERENT" });
     if equal {
         ExitCode::SUCCESS

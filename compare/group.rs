@@ -3,20 +3,23 @@
 use crate::call::{hex, Answer, Call, Image, Input, Width};
 use crate::{library, model};
 
+#[derive(Default)]
 pub struct Group {
     name: String,
     calls: u64,
     cases: u64,
     different: u64,
     case_differs: bool,
-    /// How often each number from 0 to 7 was the right answer.
-    pub numbers: [u64; 8],
+    /// How often each number from 0 to 8 was the right answer.
+    pub numbers: [u64; 9],
+    /// How many sheets were written and read; what had to be refused is not counted.
+    pub sheets_written: u64,
+    pub sheets_read: u64,
 }
 
 impl Group {
     pub fn new(name: impl Into<String>) -> Group {
-        let name = name.into();
-        Group { name, calls: 0, cases: 0, different: 0, case_differs: false, numbers: [0; 8] }
+        Group { name: name.into(), ..Group::default() }
     }
 
     /// Begins the next case; what follows is counted for it.
@@ -36,6 +39,11 @@ impl Group {
                 let state = hex(image);
                 self.differs(&format!("{call}, state {state}"), &given.to_string(), &right.to_string());
             }
+        }
+        match (call, right.number) {
+            (Call::WriteSheet(_), 0) => self.sheets_written += 1,
+            (Call::ReadSheet(_), 0) => self.sheets_read += 1,
+            _ => (),
         }
         *image = right.image;
         right
@@ -73,6 +81,9 @@ impl Group {
         for (number, times) in self.numbers.iter().enumerate().filter(|(_, times)| **times > 0) {
             print!(" {number}:{times}");
         }
+        if self.sheets_written + self.sheets_read > 0 {
+            print!("; sheets written {}, read {}", self.sheets_written, self.sheets_read);
+        }
         println!(")");
         self.different == 0
     }
@@ -98,6 +109,22 @@ impl Group {
         (answer.number, image)
     }
 
+    pub fn sheet(&mut self, image: &mut Image) -> Vec<u8> {
+        let length = self.call(image, Call::SheetLength).value as usize;
+        self.call(image, Call::WriteSheet(length)).output
+    }
+
+    /// Reads a sheet; where it is taken, its state must give the same sheet again.
+    pub fn read_sheet(&mut self, text: &[u8]) -> Answer {
+        let mut image = [0xee; 128];
+        let answer = self.call(&mut image, Call::ReadSheet(text));
+        if answer.number == 0 {
+            let again = self.sheet(&mut image);
+            self.same("sheet of the state that was read", &again, text);
+        }
+        answer
+    }
+
     /// Every call that a state can refuse, each on the state as given, and reset.
     pub fn every_call(&mut self, image: &Image) {
         let width = model::State::read(image).width;
@@ -107,6 +134,11 @@ impl Group {
         for length in [0, width.digest(), width.record(), width.digest() + 1] {
             self.call(&mut image.clone(), Call::Finish(length));
             self.call(&mut image.clone(), Call::Export(length));
+        }
+        let sheet = self.call(&mut image.clone(), Call::SheetLength).value as usize;
+        // The last is the longest sheet's.
+        for length in [0, sheet, sheet + 1, 254] {
+            self.call(&mut image.clone(), Call::WriteSheet(length));
         }
         self.call(&mut image.clone(), Call::Reset);
     }

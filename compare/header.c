@@ -32,6 +32,18 @@ static const struct width widths[] = {
     {"width 320, ", 1, RIPEMD_320_DIGEST_LENGTH, RIPEMD_320_RECORD_LENGTH, ripemd_fresh320, ripemd_import320, ripemd_one_shot320, {0xde, 0x4c, 0x01, 0xb3}},
 };
 
+static void sheet(const ripemd_state *state) {
+    ripemd_state read;
+    uint8_t text[RIPEMD_SHEET_MAX_LENGTH] = {0};
+    uint64_t place = 1, length = ripemd_sheet_length(state);
+    check("sheet_length", length != 0 && length <= sizeof text);
+    check("write_sheet", ripemd_write_sheet(state, text, length) == RIPEMD_DONE);
+    check("read_sheet", ripemd_read_sheet(&read, text, length, &place) == RIPEMD_DONE);
+    check("place", place == 0);
+    check("state of the sheet", memcmp(state, &read, sizeof read) == 0);
+    check("output of a sheet", ripemd_write_sheet(state, text, length - 1) == RIPEMD_OUTPUT_LENGTH);
+}
+
 static void hash(const struct width *w) {
     ripemd_state state;
     uint8_t digest[RIPEMD_320_DIGEST_LENGTH] = {0}, whole[RIPEMD_320_DIGEST_LENGTH] = {0}, record[RIPEMD_320_RECORD_LENGTH];
@@ -46,6 +58,7 @@ static void hash(const struct width *w) {
     check("digest", memcmp(digest, w->abc, sizeof w->abc) == 0);
     check("one_shot", w->one_shot((const uint8_t *)"abc", 3, whole, w->digest) == RIPEMD_DONE);
     check("digest at once", memcmp(digest, whole, sizeof digest) == 0);
+    sheet(&state);
 }
 
 static void refusals(void) {
@@ -65,8 +78,44 @@ static void refusals(void) {
     check("output length", ripemd_finish(&state, NULL, 0) == RIPEMD_OUTPUT_LENGTH);
     state.image[16] = 64;
     check("ill-formed", ripemd_feed(&state, block, 1) == RIPEMD_ILL_FORMED);
+    check("length of no sheet", ripemd_sheet_length(&state) == 0);
+    check("ill-formed sheet", ripemd_write_sheet(&state, block, 0) == RIPEMD_ILL_FORMED);
     ripemd_reset(&state);
     check("reset", ripemd_feed(&state, block, 1) == RIPEMD_DONE);
+}
+
+/* Whether the sheet of a fresh 160, its beginning overwritten, gives this number and place, and the state of a fresh 160. */
+static int gives(const char *beginning, uint32_t number, uint64_t place) {
+    char text[] = "width=160\nblocks=0\nwords=0123456789abcdeffedcba9876543210f0e1d2c3\ntail=\n";
+    ripemd_state state, fresh;
+    uint64_t given = 1;
+    memcpy(text, beginning, strlen(beginning));
+    ripemd_fresh160(&fresh);
+    return ripemd_read_sheet(&state, (const uint8_t *)text, sizeof text - 1, &given) == number && given == place &&
+           memcmp(&state, &fresh, sizeof state) == 0;
+}
+
+static void sheets(void) {
+    static const char high[] = "width=128\nblocks=99999999999999999\nwords=00000000000000000000000000000000\ntail=\n";
+    ripemd_state state;
+    uint8_t record[RIPEMD_320_RECORD_LENGTH], block[64] = {0};
+    uint64_t place = 1;
+    check("sheet of a fresh 160", gives("", RIPEMD_DONE, 0));
+    check("sheet's shape", gives("width=160\r", RIPEMD_SHEET_SHAPE, 9));
+    check("sheet's words", gives("width=160\nblocks=0\nwords=1", RIPEMD_RECORD_WORDS, 0));
+    check("sheet's count", ripemd_read_sheet(&state, (const uint8_t *)high, sizeof high - 1, &place) == RIPEMD_RECORD_COUNT);
+    check("place of a count", place == 0);
+    check("width after a refused sheet", state.image[0] == 0);
+    place = 1;
+    check("no sheet", ripemd_read_sheet(&state, NULL, 0, &place) == RIPEMD_SHEET_SHAPE);
+    check("place in no sheet", place == 0);
+    memset(record, 0xff, sizeof record);
+    record[46] = 0x7f;
+    record[47] = 0;
+    check("last count of 320", ripemd_import320(&state, record, sizeof record) == RIPEMD_DONE);
+    check("last bytes of 320", ripemd_feed(&state, block, 63) == RIPEMD_DONE);
+    check("longest sheet", ripemd_sheet_length(&state) == RIPEMD_SHEET_MAX_LENGTH);
+    sheet(&state);
 }
 
 int main(void) {
@@ -74,6 +123,7 @@ int main(void) {
     for (size_t i = 0; i < sizeof widths / sizeof widths[0]; i++) hash(&widths[i]);
     at = "";
     refusals();
+    sheets();
 #ifdef __cplusplus
     printf("header from C++: %d of %d equal\n", done - failed, done);
 #else

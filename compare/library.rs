@@ -24,6 +24,9 @@ extern "C" {
     fn ripemd_one_shot160(message: *const u8, m: usize, output: *mut u8, n: usize) -> u32;
     fn ripemd_one_shot256(message: *const u8, m: usize, output: *mut u8, n: usize) -> u32;
     fn ripemd_one_shot320(message: *const u8, m: usize, output: *mut u8, n: usize) -> u32;
+    fn ripemd_sheet_length(state: *const u8) -> u64;
+    fn ripemd_write_sheet(state: *const u8, output: *mut u8, n: usize) -> u32;
+    fn ripemd_read_sheet(state: *mut u8, sheet: *const u8, n: usize, place: *mut u64) -> u32;
 }
 
 /// The calls that have the width in their name.
@@ -83,22 +86,25 @@ pub fn answer(before: &Image, call: &Call, empty: *mut u8) -> Answer {
     let mut state = Guarded::new(before);
     let mut input = Guarded::new(call.input().bytes());
     let mut output = Guarded::new(&call.output());
+    let mut value = Guarded::new(&call.value().to_le_bytes());
     let at = state.pointer(empty);
     let from = input.pointer(empty);
     let to = output.pointer(empty);
     let n = output.bytes().len();
-    // SAFETY: every pointer goes with the length of its own buffer, or with a claimed length that
-    // the call must refuse unread.
-    let number = unsafe { raw(call, at, from, to, n) };
+    let beside = value.pointer(empty).cast();
+    // SAFETY: every pointer goes with the length of its own buffer, the value's being eight bytes, or
+    // with a claimed length that the call must refuse unread.
+    let number = unsafe { raw(call, at, from, to, n, beside) };
     Answer {
         number,
         image: state.bytes().try_into().unwrap(),
         output: output.bytes().to_vec(),
-        spilt: state.edges_changed() || output.edges_changed() || input.edges_changed() || input.bytes() != call.input().bytes(),
+        value: u64::from_le_bytes(value.bytes().try_into().unwrap()),
+        spilt: [&state, &input, &output, &value].iter().any(|lent| lent.edges_changed()) || input.bytes() != call.input().bytes(),
     }
 }
 
-unsafe fn raw(call: &Call, state: *mut u8, from: *const u8, to: *mut u8, n: usize) -> u32 {
+unsafe fn raw(call: &Call, state: *mut u8, from: *const u8, to: *mut u8, n: usize, value: *mut u64) -> u32 {
     let m = call.input().length();
     match *call {
         Call::Fresh(width) => {
@@ -121,5 +127,11 @@ unsafe fn raw(call: &Call, state: *mut u8, from: *const u8, to: *mut u8, n: usiz
             let (_, _, one_shot) = named(width);
             one_shot(from, m, to, n)
         }
+        Call::SheetLength => {
+            value.write_unaligned(ripemd_sheet_length(state));
+            0
+        }
+        Call::WriteSheet(_) => ripemd_write_sheet(state, to, n),
+        Call::ReadSheet(_) => ripemd_read_sheet(state, from, m, value),
     }
 }

@@ -1,6 +1,6 @@
 //! Cases on digests and records of messages.
 
-use crate::call::{message, Call, Input, Width};
+use crate::call::{bytes, message, Call, Input, Width};
 use crate::group::Group;
 use crate::model::{self, State};
 use crate::published;
@@ -10,7 +10,7 @@ pub fn vectors(width: Width) -> Group {
     for vector in published::VECTORS {
         group.case();
         let message = vector.message();
-        let digest = published::bytes(vector.digest(width));
+        let digest = bytes(vector.digest(width));
         group.same(vector.name, &model::published(width, &message), &digest);
         by_one_shot(&mut group, width, &message, &digest);
         by_pieces(&mut group, width, &[&message], &digest);

@@ -2,6 +2,7 @@
 //! It shares no code with the library and is written for reading, not for speed.
 
 use crate::call::{Answer, Call, Image, Width};
+use crate::sheet::{self, Sheet};
 use crate::{c128, c160, c256, c320};
 
 /// The widths by their number in byte 0 of an image.
@@ -123,6 +124,19 @@ impl State {
         let (words, count) = record.split_at(width.digest());
         State { words: to_words(words), count: to_number(count), ..State::fresh(width) }
     }
+
+    pub fn sheet(&self) -> Vec<u8> {
+        let words = to_bytes(&self.words[..self.width.words()]);
+        let tail = self.tail[..self.fill as usize].to_vec();
+        Sheet { width: self.width, count: self.count, words, tail }.text()
+    }
+
+    fn of_sheet(sheet: &Sheet) -> State {
+        let fill = sheet.tail.len();
+        let mut tail = [0; 64];
+        tail[..fill].copy_from_slice(&sheet.tail);
+        State { width: sheet.width, count: sheet.count, fill: fill as u64, words: to_words(&sheet.words), tail }
+    }
 }
 
 /// The digest by definition: `message` is padded as a whole, cut into blocks and chained from
@@ -202,9 +216,46 @@ fn one_shot(width: Width, length: usize, message: &[u8], output: &mut [u8]) -> u
     number
 }
 
+fn sheet_length(image: &Image) -> u64 {
+    let state = State::read(image);
+    if !state.well_formed() {
+        return 0;
+    }
+    state.sheet().len() as u64
+}
+
+fn write_sheet(image: &Image, output: &mut [u8]) -> u32 {
+    let state = State::read(image);
+    if !state.well_formed() {
+        return 6;
+    }
+    let sheet = state.sheet();
+    if output.len() != sheet.len() {
+        return 3;
+    }
+    output.copy_from_slice(&sheet);
+    0
+}
+
+fn read_sheet(image: &mut Image, text: &[u8], place: &mut u64) -> u32 {
+    *image = State::fresh(Width::W160).image();
+    *place = 0;
+    let Some(sheet) = Sheet::read(text) else {
+        *place = sheet::place(text);
+        return 8;
+    };
+    let state = State::of_sheet(&sheet);
+    let number = first(&[(state.count >= BLOCKS, 5), (!state.begins(), 7)]);
+    if number == 0 {
+        *image = state.image();
+    }
+    number
+}
+
 pub fn answer(before: &Image, call: &Call) -> Answer {
     let mut image = *before;
     let mut output = call.output();
+    let mut value = call.value();
     let number = match *call {
         Call::Fresh(width) => {
             image = State::fresh(width).image();
@@ -219,6 +270,12 @@ pub fn answer(before: &Image, call: &Call) -> Answer {
         Call::Export(_) => export(&image, &mut output),
         Call::Import(width, record) => import(&mut image, width, record),
         Call::OneShot(width, message, _) => one_shot(width, message.length(), message.bytes(), &mut output),
+        Call::SheetLength => {
+            value = sheet_length(&image);
+            0
+        }
+        Call::WriteSheet(_) => write_sheet(&image, &mut output),
+        Call::ReadSheet(text) => read_sheet(&mut image, text, &mut value),
     };
-    Answer { number, image, output, spilt: false }
+    Answer { number, image, output, value, spilt: false }
 }

@@ -111,9 +111,3 @@ pub const VECTORS: [Vector; 9] = [
         digest320: "bdee37f4371e20646b8b0d862dda16292ae36f40965e8c8509e63d1dbddecc503e2b63eb9245bb66",
     },
 ];
-
-/// The bytes of a digest written in hex.
-pub fn bytes(hex: &str) -> Vec<u8> {
-    let pairs = (0..hex.len()).step_by(2).map(|at| &hex[at..at + 2]);
-    pairs.map(|pair| u8::from_str_radix(pair, 16).unwrap()).collect()
-}

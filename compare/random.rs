@@ -2,7 +2,9 @@
 
 use crate::call::{Call, Image, Input, Width, WIDTHS};
 use crate::group::Group;
-use crate::model::{State, BLOCKS};
+use crate::model::{self, State, BLOCKS};
+use crate::sheet::Sheet;
+use crate::sheets::TELLING;
 
 /// The generator splitmix64: any seed will do.
 struct Random(u64);
@@ -78,6 +80,25 @@ fn any_record(random: &mut Random, width: Width, exported: &[u8]) -> Vec<u8> {
     record
 }
 
+/// Up to two other bytes in the place of none, one, two or all that follow.
+fn damaged_sheet(random: &mut Random, text: &[u8]) -> Vec<u8> {
+    let from = random.below(text.len() + 1);
+    let to = random.pick(&[from, from + 1, from + 2, text.len()]).min(text.len());
+    let between: Vec<u8> = (0..random.below(3)).map(|_| random.pick(TELLING)).collect();
+    [&text[..from], &between, &text[to..]].concat()
+}
+
+/// Often the last sheet that was written, as it was or damaged; else one of any state, well formed or not.
+fn any_sheet(random: &mut Random, written: &[u8]) -> Vec<u8> {
+    let width = random.pick(&WIDTHS);
+    let (count, fill) = (any_count(random), random.below(66));
+    match random.below(8) {
+        0..=3 => written.to_vec(),
+        4..=5 => damaged_sheet(random, written),
+        _ => Sheet { width, count, words: random.bytes(width.digest()), tail: random.bytes(fill) }.text(),
+    }
+}
+
 /// A copy of the image with one thing changed; not every change makes it ill-formed.
 fn damaged(random: &mut Random, image: &Image) -> Image {
     let mut damaged = *image;
@@ -91,10 +112,38 @@ fn damaged(random: &mut Random, image: &Image) -> Image {
     damaged
 }
 
-fn one_call(group: &mut Group, random: &mut Random, image: &mut Image, exported: &mut Vec<u8>) {
+/// The last record and the last sheet that were written.
+#[derive(Default)]
+struct Written {
+    record: Vec<u8>,
+    sheet: Vec<u8>,
+}
+
+fn one_call_on_sheets(group: &mut Group, random: &mut Random, image: &mut Image, written: &mut Written) {
+    let before = *image;
+    let text = any_sheet(random, &written.sheet);
+    let length = model::answer(image, &Call::SheetLength).value as usize;
+    let call = match random.below(16) {
+        0 => Call::SheetLength,
+        1..=7 => Call::WriteSheet(output_length(random, length)),
+        _ => Call::ReadSheet(&text),
+    };
+    let answer = group.call(image, call);
+    match (call, answer.number) {
+        (Call::WriteSheet(_), 0) => written.sheet = answer.output,
+        // Refused, it left a fresh 160; mostly the sequence goes on from the state before.
+        (Call::ReadSheet(_), 5..) if !random.one_in(8) => *image = before,
+        _ => (),
+    }
+}
+
+fn one_call(group: &mut Group, random: &mut Random, image: &mut Image, written: &mut Written) {
+    if random.one_in(6) {
+        return one_call_on_sheets(group, random, image, written);
+    }
     let State { width: own, fill, .. } = State::read(image);
     let width = random.pick(&WIDTHS);
-    let record = any_record(random, width, exported);
+    let record = any_record(random, width, &written.record);
     let piece = any_piece(random, fill);
     let call = match random.below(64) {
         0 => Call::Fresh(width),
@@ -107,7 +156,7 @@ fn one_call(group: &mut Group, random: &mut Random, image: &mut Image, exported:
     };
     let answer = group.call(image, call);
     if let (Call::Export(_), 0) = (call, answer.number) {
-        *exported = answer.output;
+        written.record = answer.output;
     }
 }
 
@@ -115,21 +164,21 @@ pub fn sequences(seed: u64, calls: u64) -> Group {
     let mut group = Group::new(format!("random sequences, seed {seed}"));
     let mut random = Random(seed);
     let mut image = State::fresh(Width::W160).image();
-    let mut exported = Vec::new(); // the last record that was exported
+    let mut written = Written::default();
     for _ in 0..calls {
         group.case();
         // Most damage is done to a copy, so that the sequence goes on; some of it stays.
         if random.one_in(8) {
             let mut copy = damaged(&mut random, &image);
-            one_call(&mut group, &mut random, &mut copy, &mut exported);
+            one_call(&mut group, &mut random, &mut copy, &mut written);
             if random.one_in(50) {
                 image = copy;
             }
         } else {
-            one_call(&mut group, &mut random, &mut image, &mut exported);
+            one_call(&mut group, &mut random, &mut image, &mut written);
         }
     }
-    for number in 0..8 {
+    for number in 0..9 {
         let met = (group.numbers[number] > 0) as u32;
         group.number(&format!("whether number {number} came up"), met, 1);
     }

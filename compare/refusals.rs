@@ -13,7 +13,7 @@ fn record_at(width: Width, count: u64) -> Vec<u8> {
 }
 
 /// A well-formed image with that count and fill.
-fn image_at(width: Width, count: u64, fill: usize) -> Image {
+pub fn image_at(width: Width, count: u64, fill: usize) -> Image {
     let imported = model::answer(&[0; 128], &Call::Import(width, &record_at(width, count))).image;
     let mut state = State { fill: fill as u64, ..State::read(&imported) };
     state.tail[..fill].copy_from_slice(&message(fill));
@@ -123,7 +123,7 @@ pub fn lengths_beyond_memory(width: Width) -> Group {
 
 /// Words that are not the initial ones: each bit of each word flipped, each word zero, all of them zero,
 /// and those that the message's first block leaves.
-fn other_words(width: Width) -> Vec<[u32; 10]> {
+pub fn other_words(width: Width) -> Vec<[u32; 10]> {
     let initial = State::fresh(width).words;
     let mut all = vec![[0; 10], State::read(&image_at(width, 1, 0)).words];
     for word in 0..width.words() {

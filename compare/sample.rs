@@ -8,6 +8,11 @@
 //!                                                words after the message's first 64 bytes was
 //!                                                imported and the message's first n bytes fed
 //!     import     wiped, or fresh                 number for a record of zeros, or of a fresh state
+//!     sheet      n                               sheet after the message's first n bytes
+//!     read       n                               number and place, one byte each, for the sheet after
+//!                                                the message's first 127 bytes, its byte n set to 58 (hex)
+//!     read       whole, or short                 the same for that sheet as it is, or without its last
+//!                                                byte
 #![allow(dead_code)]
 
 mod c128;
@@ -17,6 +22,7 @@ mod c320;
 mod call;
 mod model;
 mod published;
+mod sheet;
 
 use call::{hex, message, Call, Image, Input, Width, WIDTHS};
 use model::{State, BLOCKS};
@@ -40,18 +46,20 @@ fn vectors(width: Width) {
     }
 }
 
+/// The state after the message's first `length` bytes.
+fn taken(width: Width, length: usize) -> State {
+    let piece = message(length);
+    State::read(&after(&State::fresh(width).image(), Call::Feed(Input::Bytes(&piece))))
+}
+
 fn records(width: Width) {
     for length in [0, 64, 128, 192] {
-        let piece = message(length);
-        let image = after(&State::fresh(width).image(), Call::Feed(Input::Bytes(&piece)));
-        line(width, "record", length, &State::read(&image).record());
+        line(width, "record", length, &taken(width, length).record());
     }
 }
 
 fn last_count(width: Width) {
-    let block = message(64);
-    let image = after(&State::fresh(width).image(), Call::Feed(Input::Bytes(&block)));
-    let record = State { count: BLOCKS - 1, ..State::read(&image) }.record();
+    let record = State { count: BLOCKS - 1, ..taken(width, 64) }.record();
     let imported = after(&[0; 128], Call::Import(width, &record));
     for length in [0, 1, 55, 56, 63] {
         let piece = message(length);
@@ -68,6 +76,25 @@ fn imports(width: Width) {
     }
 }
 
+fn read(width: Width, name: impl std::fmt::Display, text: &[u8]) {
+    let answer = model::answer(&[0; 128], &Call::ReadSheet(text));
+    line(width, "read", name, &[answer.number as u8, answer.value as u8]);
+}
+
+fn sheets(width: Width) {
+    for length in [0, 1, 63, 64, 127] {
+        line(width, "sheet", length, &taken(width, length).sheet());
+    }
+    let sheet = taken(width, 127).sheet();
+    for at in [0, 8, 17, 20, 30, 70, 150] {
+        let mut damaged = sheet.clone();
+        damaged[at] = 0x58;
+        read(width, at, &damaged);
+    }
+    read(width, "whole", &sheet);
+    read(width, "short", &sheet[..sheet.len() - 1]);
+}
+
 fn main() {
     for width in WIDTHS {
         vectors(width);
@@ -77,5 +104,6 @@ fn main() {
         records(width);
         last_count(width);
         imports(width);
+        sheets(width);
     }
 }

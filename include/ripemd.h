@@ -19,6 +19,11 @@
  * Bytes are lent as a pointer and a length. They must not overlap the state
  * or each other. Where the length is 0 the pointer is not followed: it may
  * point anywhere, and NULL does no harm.
+ *
+ * An answer beside the number comes through a pointer that is always
+ * written, with 0 where the number carries none. It is no lent buffer: it
+ * must point to a number of the caller's, apart from the state and all that
+ * is lent.
  */
 #ifndef RIPEMD_H
 #define RIPEMD_H
@@ -39,6 +44,7 @@ extern "C" {
 #define RIPEMD_160_RECORD_LENGTH 28
 #define RIPEMD_256_RECORD_LENGTH 40
 #define RIPEMD_320_RECORD_LENGTH 48
+#define RIPEMD_SHEET_MAX_LENGTH 254
 #define RIPEMD_STATE_LENGTH 128
 
 /*
@@ -50,11 +56,12 @@ enum ripemd_number {
     RIPEMD_DONE = 0,
     RIPEMD_TOO_LONG = 1,      /* the message would have 2^61 bytes or more */
     RIPEMD_MID_BLOCK = 2,     /* bytes taken are not a multiple of 64 */
-    RIPEMD_OUTPUT_LENGTH = 3, /* the output is not exactly of the width's length */
+    RIPEMD_OUTPUT_LENGTH = 3, /* the output is not exactly of the length asked for */
     RIPEMD_RECORD_LENGTH = 4, /* the record is not exactly of the width's length */
-    RIPEMD_RECORD_COUNT = 5,  /* the record's block count is 2^55 or more */
+    RIPEMD_RECORD_COUNT = 5,  /* the record's or sheet's block count is 2^55 or more */
     RIPEMD_ILL_FORMED = 6,    /* the state is not well formed */
-    RIPEMD_RECORD_WORDS = 7   /* the record's block count is 0, and its words are not the initial ones */
+    RIPEMD_RECORD_WORDS = 7,  /* the record's or sheet's block count is 0, and its words are not the initial ones */
+    RIPEMD_SHEET_SHAPE = 8    /* the text is not of a sheet's shape */
 };
 
 /*
@@ -137,6 +144,57 @@ uint32_t ripemd_import128(ripemd_state *state, const uint8_t *record, size_t n);
 uint32_t ripemd_import160(ripemd_state *state, const uint8_t *record, size_t n);
 uint32_t ripemd_import256(ripemd_state *state, const uint8_t *record, size_t n);
 uint32_t ripemd_import320(ripemd_state *state, const uint8_t *record, size_t n);
+
+/*
+ * A sheet is a state as text, for paper; unlike a record it can be had after
+ * any byte. It has four lines, each of which ends with one line feed (0x0a),
+ * and nothing behind them. That of a fresh 160 is
+ *
+ *     width=160
+ *     blocks=0
+ *     words=0123456789abcdeffedcba9876543210f0e1d2c3
+ *     tail=
+ *
+ *     width     128, 160, 256 or 320
+ *     blocks    count of whole blocks taken: 1 to 17 decimal digits, the
+ *               first of several not 0
+ *     words     the words that the width uses, each low byte first: 16, 20,
+ *               32 or 40 bytes by width
+ *     tail      the bytes of the block that is not yet whole, 0 to 63
+ *
+ * Bytes are two hex digits each, in lower case.
+ */
+
+/*
+ * Gives the length of the state's sheet in bytes: at most
+ * RIPEMD_SHEET_MAX_LENGTH, and 0 where the state is not well formed. The
+ * state is only read. Never refused.
+ */
+uint64_t ripemd_sheet_length(const ripemd_state *state);
+
+/*
+ * Writes the state's sheet, with no zero byte behind it. The state is only
+ * read, and feeding may go on.
+ * Done: all n bytes of the output are the sheet; n is what
+ * ripemd_sheet_length gives.
+ * Refused, RIPEMD_ILL_FORMED then RIPEMD_OUTPUT_LENGTH: no byte is written.
+ */
+uint32_t ripemd_write_sheet(const ripemd_state *state, uint8_t *output, size_t n);
+
+/*
+ * Sets the state to the one that a sheet was written from, at the width that
+ * the sheet names. What the memory held before does not matter.
+ * Done: feeding and finishing go on from the sheet's words, count and tail.
+ * With a count other than 0 any words are taken, and any tail with every
+ * count: a sheet damaged there cannot be told from a good one.
+ * Refused, RIPEMD_SHEET_SHAPE then RIPEMD_RECORD_COUNT then
+ * RIPEMD_RECORD_WORDS: the state is that of an empty message at width 160,
+ * whatever width the sheet names.
+ * The place: with RIPEMD_SHEET_SHAPE the length of the longest beginning of
+ * the text that some sheet shares, so the index of the first wrong byte, or n
+ * where the text is cut short; 0 with every other number.
+ */
+uint32_t ripemd_read_sheet(ripemd_state *state, const uint8_t *sheet, size_t n, uint64_t *place);
 
 /*
  * Writes the digest of a whole message of m bytes, with no state.

@@ -1,7 +1,7 @@
 //! The calls of `include/ripemd.h`, made safe. All `unsafe` code of the crate is here.
 #![allow(unsafe_code)]
 
-use crate::Error;
+use crate::{Error, SheetError};
 
 /// The memory of a state; the library alone writes it, so it is always well formed.
 pub(crate) type Image = [u8; 128];
@@ -11,6 +11,9 @@ extern "C" {
     fn ripemd_feed(state: &mut Image, piece: *const u8, n: usize) -> u32;
     fn ripemd_finish(state: &Image, output: *mut u8, n: usize) -> u32;
     fn ripemd_export(state: &Image, output: *mut u8, n: usize) -> u32;
+    fn ripemd_sheet_length(state: &Image) -> u64;
+    fn ripemd_write_sheet(state: &Image, output: *mut u8, n: usize) -> u32;
+    fn ripemd_read_sheet(state: &mut Image, sheet: *const u8, n: usize, place: &mut u64) -> u32;
 }
 
 /// The calls that have a width in their name, since no state tells it.
@@ -41,7 +44,7 @@ width!(W160, ripemd_fresh160, ripemd_import160, ripemd_one_shot160);
 width!(W256, ripemd_fresh256, ripemd_import256, ripemd_one_shot256);
 width!(W320, ripemd_fresh320, ripemd_import320, ripemd_one_shot320);
 
-// Why each call below is safe: a reference is to 128 bytes that nobody else changes meanwhile; a
+// Why each call below is safe: a reference is to memory that nobody else changes meanwhile; a
 // pointer and a length come from one slice, which is lent until the call ends; and the library
 // keeps no pointer, reads and writes nothing else, and takes any bytes without a precondition.
 
@@ -76,6 +79,30 @@ pub(crate) fn import(width: Width, record: &[u8]) -> Result<Image, Error> {
     let mut image = [0; 128];
     // SAFETY: `image` is a local of the right length; `record` is read within its length.
     Error::told(unsafe { (width.import)(&mut image, record.as_ptr(), record.len()) })?;
+    Ok(image)
+}
+
+pub(crate) fn write_sheet(image: &Image) -> Result<Vec<u8>, Error> {
+    // SAFETY: `image` is only read.
+    let length = unsafe { ripemd_sheet_length(image) };
+    let mut sheet = vec![0; length as usize];
+    // SAFETY: `image` is only read; `sheet` is a local and written within its length.
+    Error::told(unsafe { ripemd_write_sheet(image, sheet.as_mut_ptr(), sheet.len()) })?;
+    Ok(sheet)
+}
+
+pub(crate) fn read_sheet(width: Width, sheet: &[u8]) -> Result<Image, SheetError> {
+    let mut image = [0; 128];
+    let mut place = 0;
+    // SAFETY: `image` and `place` are locals of the right type; `sheet` is read within its length.
+    let number = unsafe { ripemd_read_sheet(&mut image, sheet.as_ptr(), sheet.len(), &mut place) };
+    SheetError::told(number, sheet, place as usize)?;
+    // The library reads a sheet of any width, and byte 0 of the image, modulo 4, tells which.
+    let own = image[0] % 4;
+    if own != fresh(width)[0] % 4 {
+        let bits = [160, 320, 128, 256][usize::from(own)];
+        return Err(SheetError::Width { bits });
+    }
     Ok(image)
 }
 

@@ -1,7 +1,7 @@
 //! All hashers from one text: they differ in name, width and lengths alone.
 
 /// Says why a call that has no error to give could not be refused, should it be.
-pub(crate) const NEVER: &str = "a state that the library made, and an array of the right length";
+pub(crate) const NEVER: &str = "a state that the library made, and an output of the right length";
 
 macro_rules! hasher {
     ($name:ident, $bits:literal, $width:expr, $digest:literal, $record:literal) => {
@@ -83,7 +83,7 @@ macro_rules! hasher {
 
             #[doc = concat!("The record of all that was taken, ", $record, " bytes, from which")]
             /// [`deserialize`](Self::deserialize) goes on. Refused with [`Error::MidBlock`] unless
-            /// the bytes taken are a multiple of 64.
+            /// the bytes taken are a multiple of 64; [`to_sheet`](Self::to_sheet) is never refused.
             pub fn serialize(&self) -> Result<[u8; $record], Error> {
                 let mut record = [0; $record];
                 ffi::export(&self.image, &mut record)?;
@@ -94,6 +94,20 @@ macro_rules! hasher {
             /// [`Error::RecordCount`] or [`Error::RecordWords`]; other damage to a record cannot be seen.
             pub fn deserialize(record: &[u8]) -> Result<Self, Error> {
                 Ok(Self { image: ffi::import($width, record)? })
+            }
+
+            /// The sheet of all that was taken, whatever its length: four lines of text, from which
+            /// [`from_sheet`](Self::from_sheet) goes on. The last has the bytes after the last
+            /// multiple of 64 as they are, so that much of the message can be read there.
+            pub fn to_sheet(&self) -> String {
+                let sheet = ffi::write_sheet(&self.image).expect(NEVER);
+                String::from_utf8(sheet).expect("a sheet is ASCII")
+            }
+
+            /// A hasher that goes on from a sheet, text or bytes. Refused as [`SheetError`] says; other
+            /// damage to a sheet, such as one digit for another, cannot be seen.
+            pub fn from_sheet(sheet: impl AsRef<[u8]>) -> Result<Self, SheetError> {
+                Ok(Self { image: ffi::read_sheet($width, sheet.as_ref())? })
             }
         }
 

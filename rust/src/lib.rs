@@ -12,8 +12,7 @@
 //!
 //! # Across a restart
 //!
-//! After a multiple of 64 bytes the hasher can be kept as a record. `examples/restart.rs` does
-//! this through a file.
+//! After a multiple of 64 bytes the hasher can be kept as a record.
 //!
 //! ```
 //! use ripemd::{Error, Ripemd320};
@@ -28,6 +27,33 @@
 //! assert_eq!(after.serialize().unwrap_err(), Error::MidBlock);
 //! assert_eq!(after.finalize(), Ripemd320::digest(message));
 //! # Ok::<(), Error>(())
+//! ```
+//!
+//! # In the middle of a block
+//!
+//! After any number of bytes the hasher can be kept as a state sheet: four lines of text, which can
+//! also be printed and typed in again. `examples/restart.rs` does this through a file.
+//!
+//! ```
+//! use ripemd::{Ripemd160, SheetError};
+//!
+//! let mut before = Ripemd160::new();
+//! before.update("message ");
+//! let sheet = before.to_sheet();
+//! assert_eq!(sheet, "width=160
+//! blocks=0
+//! words=0123456789abcdeffedcba9876543210f0e1d2c3
+//! tail=6d65737361676520
+//! ");
+//!
+//! let mut after = Ripemd160::from_sheet(&sheet)?;
+//! after.update("digest");
+//! assert_eq!(after.finalize(), Ripemd160::digest("message digest"));
+//!
+//! let mistyped = sheet.replace("0123", "0l23");
+//! let refused = Ripemd160::from_sheet(mistyped).unwrap_err();
+//! assert_eq!(refused, SheetError::Shape { place: 26, line: 3 });
+//! # Ok::<(), SheetError>(())
 //! ```
 //!
 //! # From a reader
@@ -46,7 +72,7 @@
 //! - The methods belong to the types: drop `use ripemd::Digest`.
 //! - A digest is an array, such as `[u8; 20]` of `Ripemd160`.
 //! - `serialize` gives the record of `Ripemd160Core` and its like, the same bytes, and is refused in
-//!   the middle of a block. The old `Ripemd160` appended its part-filled block.
+//!   the middle of a block. The old `Ripemd160` appended its part-filled block; `to_sheet` keeps it.
 //! - `deserialize` refuses a block count of 2^55 or more, and `update` a message of 2^61 bytes or
 //!   more: from there on the old crate's bit length overflowed.
 //! - `deserialize` refuses a block count of 0 with words other than the initial ones, such as a record
@@ -62,7 +88,7 @@ mod error;
 mod ffi;
 mod hasher;
 
-pub use error::Error;
+pub use error::{Error, SheetError};
 
 use ffi::Image;
 use hasher::{hasher, NEVER};

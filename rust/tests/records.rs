@@ -1,4 +1,4 @@
-//! Records across a restart, and every refusal that this crate can give.
+//! Records across a restart, and every `Error` that this crate can give.
 
 use ripemd::Error;
 use std::io::Write;

@@ -1,5 +1,5 @@
-// The reason for all this, played through: a sixty-day log in odd pieces, hashed once straight through, and once with an export, a fresh start
-// and an import at every point where that is allowed, with refused calls in between. Both digests are the same.
+// The reason for all this, played through: a sixty-day log in odd pieces, hashed once straight through, and once over a sheet after each piece
+// and an export and an import at every point where that is allowed, with refused calls in between. Both digests are the same.
 mod log;
 mod report;
 
@@ -33,12 +33,15 @@ fn straight(w: Width) -> Run {
     }
 }
 
-// Calls that are refused, and so count as not made: a digest and a record into outputs of wrong lengths, a record cut short, a damaged state.
+// Calls that are refused, and so count as not made: a digest, a record and a sheet into outputs of wrong lengths, a record cut short, a text
+// that is no sheet, a damaged state.
 fn refused(w: Width, s: State, piece: &[u8]) {
     let mut short = [0u8; 19];
     ripemd::finish(s, &mut short);
     ripemd::export(s, &mut short);
     ripemd::import(w, &short);
+    sheet::write(s, &mut short);
+    sheet::read(&short);
     let mut damaged = s;
     damaged.fill = 64;
     ripemd::feed(damaged, piece);
@@ -63,7 +66,15 @@ fn resumed(w: Width, s: State) -> Run
     }
 }
 
-// One piece of the log through the lent feed, refused calls around it, and a restart behind it.
+// The state read from its own sheet.
+fn on_paper(s: State) -> State {
+    let mut out = [0u8; 254];
+    front::write(s, &mut out);
+    let r = sheet::read(text::first(&out, sheet::sheet_length(s)));
+    r.state
+}
+
+// One piece of the log through the lent feed, refused calls around it, and restarts behind it.
 fn step(w: Width, s: State, piece: &[u8]) -> Run
     ensures { λ r. ⌜ r .number ≤ 1 ⌝ }
 {
@@ -71,7 +82,7 @@ fn step(w: Width, s: State, piece: &[u8]) -> Run
     let f = lent::feed_own(s, piece);
     let t = f.state;
     refused(w, t, piece);
-    resumed(w, t)
+    resumed(w, on_paper(t))
 }
 
 // The whole log, with every restart that is allowed.

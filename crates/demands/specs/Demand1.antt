@@ -26,19 +26,19 @@ use Rattle.ripemd.proofs.Outcomes.{refused}
 use Rattle.demands.specs.Numbers.{number, nothing, Other, Decides, no-row, one-row, found-is}
 
 -- ---- what the tests of the rows say
-equal-row : (n a b : ℕ) (rs : List Row) (rest : Type 0 → ℕ → Type 0) → Other rs n → Decides rs rest
+pub equal-row : (n a b : ℕ) (rs : List Row) (rest : Type 0 → ℕ → Type 0) → Other rs n → Decides rs rest
     → Decides ((n when not (eqb a b)) ∷ rs) (number n (¬ (a ≡ b)) rest)
 equal-row n a b rs rest =
     one-row n (not (eqb a b)) (¬ (a ≡ b)) rs rest
     (λ e. eqb-false a b (not-true (eqb a b) e))
     (λ e k. k (eqb-true a b (not-false (eqb a b) e)))
 
-least-row : (n a b : ℕ) (rs : List Row) (rest : Type 0 → ℕ → Type 0) → Other rs n → Decides rs rest
+pub least-row : (n a b : ℕ) (rs : List Row) (rest : Type 0 → ℕ → Type 0) → Other rs n → Decides rs rest
     → Decides ((n when leb a b) ∷ rs) (number n (a ≤ b) rest)
 least-row n a b rs rest =
     one-row n (leb a b) (a ≤ b) rs rest (leb-true a b) (λ e k. let l = leb-false a b e in omega arith)
 
-start-row : (n : ℕ) (w : Width) (h : List ℕ) (c : ℕ) (rs : List Row) (rest : Type 0 → ℕ → Type 0) → Other rs n → Decides rs rest
+pub start-row : (n : ℕ) (w : Width) (h : List ℕ) (c : ℕ) (rs : List Row) (rest : Type 0 → ℕ → Type 0) → Other rs n → Decides rs rest
     → Decides ((n when wrongStart w h c) ∷ rs) (number n ((c ≡ 0) × (¬ (h ≡ initialOf w))) rest)
 start-row n w h c rs rest =
     one-row n (wrongStart w h c) ((c ≡ 0) × (¬ (h ≡ initialOf w))) rs rest (starts-not w h c) (λ e k. k .1 (starts w h c e (k .0)))
@@ -62,7 +62,7 @@ fault-six s =
     by-test false false false false true n = refl
     by-test false false false false false n = absurd (n refl)
 
-fault-row : (s : State) (rs : List Row) (rest : Type 0 → ℕ → Type 0) → Other rs 6 → Decides rs rest
+pub fault-row : (s : State) (rs : List Row) (rest : Type 0 → ℕ → Type 0) → Other rs 6 → Decides rs rest
     → number 6 (¬ WellFormed s) rest (Unit {0}) (first (found (faultOf s) ∷ rs))
 fault-row s rs rest o d =
     rw (found-is (faultOf s) 6 rs (fault-six s))

@@ -1,5 +1,5 @@
--- DEMAND 3. Cut a message anywhere, empty pieces allowed; export and import wherever the bytes so far are a multiple of 64; calls that are
--- refused in between, and finishing, count as not made. The digest is that of the whole message.
+-- DEMAND 3. Cut a message anywhere, empty pieces allowed; export and import wherever the bytes so far are a multiple of 64, write a sheet and
+-- read it anywhere; calls that are refused in between, and finishing, count as not made. The digest is that of the whole message.
 -- Assumes nothing.
 use Prim.Native.Nat.{ℕ, _+_, _*_, _/_, _%_, _^_, _<_, _≤_}
 use mathlib.Core.Path.{_≡_, refl, sym, ap, _∙_, subst}
@@ -8,21 +8,22 @@ use mathlib.Core.Bool.{Bool, true, false}
 use native.Mathlib.Omega.{arith}
 use native.Mathlib.Nat.{add-zero}
 use borrow.Author.Tests.{leb-true, leb-false}
-use lib.Dec.{leb}
+use lib.Dec.{leb, lit<}
 use lib.ListN.{length, length-append}
-use lib.Seq.{paste, paste-zero}
+use lib.Seq.{paste, paste-zero, take-length}
 use Rattle.words.specs.Bytes.{Below}
 use Rattle.words.proofs.Numbers.{below-parts}
 use Rattle.compress.specs.Block.{initialOf}
 use Rattle.compress.specs.declared.Width.{Width}
 use Rattle.ripemd.specs.State.{takenOf, faultOf, between, freshOf, moved}
-use Rattle.ripemd.specs.Feed.{fedState, feedOf}
+use Rattle.ripemd.specs.Feed.{asTail, fedState, feedOf}
 use Rattle.ripemd.specs.Digest.{digestLength, published, continued}
 use Rattle.ripemd.specs.Finish.{digestOf, finishNumber, finishBytes}
 use Rattle.ripemd.specs.Record.{recordLength, recordOf, wordsIn, countIn, exportNumber, exportBytes, importOf}
 use Rattle.ripemd.specs.declared.State.{State}
 use Rattle.ripemd.specs.declared.Fed.{Fed}
 use Rattle.ripemd.specs.declared.Imported.{Imported}
+use Rattle.ripemd.proofs.Zeros.{drop-replicate}
 use Rattle.ripemd.proofs.Pending.{fed-short}
 use Rattle.ripemd.proofs.Cuts.{fed-twice}
 use Rattle.ripemd.proofs.Outcomes.{accepted}
@@ -30,7 +31,12 @@ use Rattle.ripemd.proofs.Ends.{digest-from, from-nothing}
 use Rattle.ripemd.proofs.Kept.{Sound, sound-fine, fresh-sound, fed-width, fed-sound, fed-taken}
 use Rattle.ripemd.proofs.Calls.{feed-takes, feed-long, finish-right, export-right, export-part, export-full}
 use Rattle.ripemd.proofs.Resumed.{Importable, import-takes, import-sound, record-again, import-zero, import-export}
+use Rattle.sheet.specs.Sheet.{Shaped, sheetOf, writeNumber, writeBytes}
+use Rattle.sheet.specs.Reading.{stateWith, readOf}
+use Rattle.sheet.specs.declared.Readout.{Readout}
+use Rattle.sheet.proofs.Again.{read-sheet, accepted-sheet, read-accepted}
 use Rattle.demands.specs.Demand1.{feed-refused, export-refused}
+use Rattle.demands.specs.Sheets.{write-numbers, write-done}
 
 -- s is reached from s₀ with the message m: by pieces, of bytes, that feed takes, and by calls that add nothing to the message
 pub data Reach (s₀ : State) : List ℕ → State → Type 0 where
@@ -40,11 +46,13 @@ pub data Reach (s₀ : State) : List ℕ → State → Type 0 where
   fed : (m p : List ℕ) (s : State) → Reach s₀ m s → Below 256 p → feedOf s p .number ≡ 0 → Reach s₀ (m ++ p) (feedOf s p .state)
   -- a piece was refused
   not-fed : (m p : List ℕ) (s : State) → Reach s₀ m s → ¬ (feedOf s p .number ≡ 0) → Reach s₀ m (feedOf s p .state)
-  -- finish or export was called, whatever its number: no state comes back, so the caller goes on with its own
+  -- finish, export or write was called, whatever its number: no state comes back, so the caller goes on with its own
   read : (m : List ℕ) (s : State) → Reach s₀ m s → Reach s₀ m s
   -- an export that was done was imported at the same width
   resumed : (m o : List ℕ) (s : State) → Reach s₀ m s → exportNumber s (length o) ≡ 0
       → Reach s₀ m (importOf (s₀ .width) (exportBytes s o) .state)
+  -- a sheet that was written was read
+  on-paper : (m o : List ℕ) (s : State) → Reach s₀ m s → writeNumber s (length o) ≡ 0 → Reach s₀ m (readOf (writeBytes s o) .state)
 
 -- ---- one induction: what reaching says
 record Held (s₀ : State) (m : List ℕ) (s : State) : Type 0 where
@@ -81,6 +89,10 @@ unfolding exportBytes
 again s o k e =
     ap (importOf (s .width)) (accepted (exportNumber s (length o)) (recordOf s) o e) ∙ import-export s k (export-full s (length o) e)
 
+-- a sheet of a sound state that is written, read again
+read-again : (s : State) (o : List ℕ) → Sound s → writeNumber s (length o) ≡ 0 → readOf (writeBytes s o) ≡ record { number = 0; place = 0; state = s }
+read-again s o k e = ap readOf (write-done s o e) ∙ read-sheet s k
+
 module _ (s₀ : State) (k₀ : Sound s₀) where
   held-fed : (m p : List ℕ) (s : State) → Held s₀ m s → Below 256 p → takenOf s + length p < 2 ^ 61 → Held s₀ (m ++ p) (fedState s p)
   held-fed m p s k b h =
@@ -116,6 +128,10 @@ module _ (s₀ : State) (k₀ : Sound s₀) where
           subst (Held s₀ m)
           (sym (ap (λ (i : Imported). i .state) (ap (λ (w : Width). importOf w (exportBytes s o)) (sym (k .width)) ∙ again s o (k .sound) e)))
           k
+  held (on-paper m o s r e) = after (held r)
+    where
+      after : Held s₀ m s → Held s₀ m (readOf (writeBytes s o) .state)
+      after k = subst (Held s₀ m) (sym (ap (λ (t : Readout). t .state) (read-again s o (k .sound) e))) k
 
 -- ---- from words h that c blocks made: the theorems that both kinds of start are instances of
 module _ (w : Width) (h : List ℕ) (c : ℕ) (k₀ : Sound (between w h c)) {m : List ℕ} {s : State} (r : Reach (between w h c) m s) where
@@ -162,6 +178,11 @@ module _ (w : Width) (h : List ℕ) (c : ℕ) (k₀ : Sound (between w h c)) {m 
             (e, export-refused s o (λ q. omega (arith, sym e ∙ q))),
       )
 
+  -- write is done wherever the message stands, and its sheet is read as the same state
+  pub chain-sheet : (o : List ℕ) → length o ≡ length (sheetOf s)
+      → (writeNumber s (length o) ≡ 0) × (readOf (writeBytes s o) ≡ record { number = 0; place = 0; state = s })
+  chain-sheet o l = let e = write-numbers s o .1 .1 .1 ((tt, λ n. n (k .sound .well)), λ n. n l) in (e, read-again s o (k .sound) e)
+
 -- ---- from a fresh state
 module _ (w : Width) {m : List ℕ} {s : State} (r : Reach (freshOf w) m s) where
   pub reached-state : (faultOf s ≡ 0) × (s .count .0 ≡ length m / 64) × (s .fill ≡ length m % 64) × (length m < 2 ^ 61)
@@ -186,6 +207,10 @@ module _ (w : Width) {m : List ℕ} {s : State} (r : Reach (freshOf w) m s) wher
       → (length m % 64 ≡ 0 → (exportNumber s (length o) ≡ 0) × (importOf w (exportBytes s o) ≡ record { number = 0; state = s }))
       × (¬ (length m % 64 ≡ 0) → (exportNumber s (length o) ≡ 2) × (exportBytes s o ≡ o))
   reached-export o l = chain-export w (initialOf w) 0 (fresh-sound w) r o l
+
+  pub reached-sheet : (o : List ℕ) → length o ≡ length (sheetOf s)
+      → (writeNumber s (length o) ≡ 0) × (readOf (writeBytes s o) ≡ record { number = 0; place = 0; state = s })
+  reached-sheet o l = chain-sheet w (initialOf w) 0 (fresh-sound w) r o l
 
 -- ---- any cut of a message of bytes, fewer than 2^61, is reached, so that these theorems are not of nothing
 abbrev pub feedAll : State → List (List ℕ) → State
@@ -245,3 +270,34 @@ module _ (w : Width) (r : List ℕ) (b : Below 256 r) (ok : importOf w r .number
       → (64 * countIn w r + length m + length p < 2 ^ 61 → feedOf s p .number ≡ 0)
       × (2 ^ 61 ≤ 64 * countIn w r + length m + length p → feedOf s p ≡ record { number = 1; state = s })
   record-feed q p = chain-feed w (wordsIn w r) (countIn w r) (import-sound w r good b) (from-words q) p
+
+-- ---- from any text l that reading accepts: what is pending in it stands before what is fed
+fed-tail : (w : Width) (h : List ℕ) (c : ℕ) (t : List ℕ) → length t < 64
+    → fedState (between w h c) t ≡ moved (between w h c) h c (length t) (asTail t)
+fed-tail w h c t l =
+    let z : 0 + length t ≡ length t = omega arith in
+    sym (fed-short (between w h c) t refl (lit< tt) refl (omega arith)) ∙ rw (z, take-length t, drop-replicate 64 (length t))
+
+module _ (l : List ℕ) (ok : readOf l .number ≡ 0) (k : Shaped l) where
+  abbrev h₀ : List ℕ
+  h₀ = wordsIn (k .width) (k .words)
+
+  from-tail : readOf l .state ≡ fedState (between (k .width) h₀ (k .count)) (k .tail)
+  unfolding stateWith
+  from-tail = read-accepted l ok k ∙ sym (fed-tail (k .width) h₀ (k .count) (k .tail) (k .tail-long))
+
+  pub sheet-finish : {m : List ℕ} {s : State} → Reach (readOf l .state) m s → (o : List ℕ) → length o ≡ digestLength (k .width)
+      → (finishNumber s (length o) ≡ 0) × (finishBytes s o ≡ continued (k .width) h₀ (k .count) (k .tail ++ m))
+  unfolding finishBytes
+  sheet-finish {m} {s} q o lo =
+      let v = held (readOf l .state) (accepted-sheet l ok .1) q in
+      let w : s .width ≡ k .width =
+      v .width ∙ ap (λ (t : State). t .width) from-tail ∙ fed-width (between (k .width) h₀ (k .count)) (k .tail)
+      in
+      let e = finish-right s (sound-fine (v .sound)) (length o) (lo ∙ ap digestLength (sym w)) in
+      let f : s ≡ fedState (between (k .width) h₀ (k .count)) (k .tail ++ m) =
+      v .is
+      ∙ ap (λ (t : State). fedState t m) from-tail
+      ∙ fed-twice (between (k .width) h₀ (k .count)) (k .tail) m refl (lit< tt)
+      in
+      (e, accepted (finishNumber s (length o)) (digestOf s) o e ∙ ap digestOf f ∙ digest-from (k .width) h₀ (k .count) (k .tail ++ m))

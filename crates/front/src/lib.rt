@@ -1,11 +1,12 @@
-// The digest and the record of a state of any width, in the first bytes of a buffer with room for the largest: for programs that go over the
-// widths.
+// The digest, the record and the sheet of a state of any width, in the first bytes of a buffer with room for the largest: for programs that go
+// over the widths.
 ghost use mathlib.Core.Path.{_≡_};
 ghost use Prim.Native.Nat.{_≤_};
 ghost use lib.ListN.{length, take};
 ghost use Rattle.ripemd.specs.Digest.{digestLength};
 ghost use Rattle.ripemd.specs.Finish.{finishNumber, finishBytes};
 ghost use Rattle.ripemd.specs.Record.{recordLength, exportNumber, exportBytes};
+ghost use Rattle.sheet.specs.Sheet.{lengthOf, writeNumber, writeBytes};
 ghost use Rattle.front.specs.Front.{atFront};
 use ripemd::State;
 use ripemd::Width;
@@ -43,4 +44,14 @@ pub fn export(s: State, out: &mut [u8]) -> u32
         return ripemd::export(s, out);
     }
     ripemd::export(s, &mut out[0..n])
+}
+
+pub fn write(s: State, out: &mut [u8]) -> u32
+    ensures { λ r. ⌜ (r ≡ writeNumber s (length (take (lengthOf s) (now (out .entry))))) × (now (out .exit) ≡ atFront (lengthOf s) (writeBytes s) (now (out .entry))) ⌝ }
+{
+    let n = sheet::sheet_length(s);
+    if out.len() < n {
+        return sheet::write(s, out);
+    }
+    sheet::write(s, &mut out[0..n])
 }

@@ -1,23 +1,16 @@
 -- What the program writes.
 -- Assumes nothing.
 use Prim.Native.Nat.{ℕ}
-use Prim.Native.Char.{code}
-use Prim.Native.String as string
-use mathlib.Core.List.{List, [], _∷_, _++_}
+use mathlib.Core.List.{List, _++_}
 use lib.ListN.{length}
 use Rattle.compress.specs.declared.Width.the-variants.{W160}
 use Rattle.ripemd.specs.State.{takenOf}
 use Rattle.ripemd.specs.Digest.{published}
 use Rattle.ripemd.specs.Finish.{digestOf}
 use Rattle.ripemd.specs.declared.State.{State}
-use Rattle.text.specs.Text.{decimalOf, hexOf}
+use Rattle.text.specs.Text.{ascii, decimalOf, hexOf}
 use Rattle.rmd160.specs.declared.Ending.{Ending}
 use Rattle.rmd160.specs.declared.Ending.the-variants.{Done, Failed, TooLong}
-
--- a quoted text as bytes
-abbrev pub ascii : string.String → List ℕ
-ascii string.[] = []
-ascii (string._∷_ c s) = code c ∷ ascii s
 
 -- the scope's three lines for n bytes with the digest d
 abbrev pub threeLines : ℕ → List ℕ → List ℕ

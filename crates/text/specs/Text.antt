@@ -1,10 +1,17 @@
 -- Text as lists of ASCII bytes, and a buffer with a text written into it.
 -- Assumes nothing.
 use Prim.Native.Nat.{ℕ, zero, suc, _+_, _-_, _/_, _%_}
+use Prim.Native.Char.{code}
+use Prim.Native.String as string
 use mathlib.Core.Bool.{Bool, cond}
 use mathlib.Core.List.{List, [], _∷_, _++_}
 use lib.Dec.{leb, ltb}
 use lib.ListN.{length, take, drop}
+
+-- a quoted text as bytes
+abbrev pub ascii : string.String → List ℕ
+ascii string.[] = []
+ascii (string._∷_ c s) = code c ∷ ascii s
 
 -- x in decimal, where n digits are enough for it: the digits of a tenth of it, then the last one
 unfoldable pub digitsOf : ℕ → ℕ → List ℕ
@@ -23,6 +30,10 @@ hexDigit d = cond (ltb d 10) (48 + d) (97 + (d - 10))
 abbrev pub hexOf : List ℕ → List ℕ
 hexOf [] = []
 hexOf (b ∷ bs) = hexDigit (b / 16) ∷ hexDigit (b % 16) ∷ hexOf bs
+
+-- a line: key=value, and a line feed
+abbrev pub lineOf : string.String → List ℕ → List ℕ
+lineOf key value = ascii key ++ ascii "=" ++ value ++ ascii "\n"
 
 -- the buffer o has room for the text t from the place at on
 abbrev pub fits : List ℕ → ℕ → List ℕ → Bool

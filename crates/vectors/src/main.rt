@@ -78,6 +78,13 @@ fn record(w: Width, m: &[u8], n: usize) {
     rows::record_at(w, n, fed(ripemd::fresh(w), text::first(m, n)));
 }
 
+fn records(w: Width, m: &[u8]) {
+    record(w, m, 0);
+    record(w, m, 64);
+    record(w, m, 128);
+    record(w, m, 192);
+}
+
 // The state that the record after the message's first block makes, where its count is the last that is accepted.
 fn last_state(w: Width, m: &[u8]) -> State {
     let mut out = [0u8; 48];
@@ -90,6 +97,14 @@ fn last_state(w: Width, m: &[u8]) -> State {
 // The digest after n bytes more from there.
 fn last(w: Width, m: &[u8], n: usize) {
     rows::digest_at(w, b"last", n, fed(last_state(w, m), text::first(m, n)));
+}
+
+fn lasts(w: Width, m: &[u8]) {
+    last(w, m, 0);
+    last(w, m, 1);
+    last(w, m, 55);
+    last(w, m, 56);
+    last(w, m, 63);
 }
 
 // The number of import for the record that is the front of out.
@@ -106,20 +121,65 @@ fn imports(w: Width) {
     imported(w, b"fresh", &out);
 }
 
+// The sheet after the message's first n bytes, in the front of out, and how long it is.
+fn written(w: Width, m: &[u8], n: usize, out: &mut [u8]) -> usize {
+    let s = fed(ripemd::fresh(w), text::first(m, n));
+    front::write(s, out);
+    sheet::sheet_length(s)
+}
+
+fn sheet(w: Width, m: &[u8], n: usize) {
+    let mut out = [0u8; 254];
+    let k = written(w, m, n, &mut out);
+    rows::bytes_at(w, b"sheet", n, text::first(&out, k));
+}
+
+// What reading gives the sheet after 127 bytes with X for its byte n.
+fn damaged(w: Width, m: &[u8], n: usize) {
+    let mut out = [0u8; 254];
+    let k = written(w, m, 127, &mut out);
+    text::bytes(&mut out, n, b"X");
+    let r = rows::readout(text::first(&out, k));
+    rows::bytes_at(w, b"read", n, &r);
+}
+
+// What it gives that sheet as it is, and without its last byte.
+fn undamaged(w: Width, m: &[u8]) {
+    let mut out = [0u8; 254];
+    let k = written(w, m, 127, &mut out);
+    let whole = rows::readout(text::first(&out, k));
+    rows::named(w, b"read", b"whole", &whole);
+    if k == 0 {
+        return;
+    }
+    let short = rows::readout(text::first(&out, k - 1));
+    rows::named(w, b"read", b"short", &short);
+}
+
+fn sheets(w: Width, m: &[u8]) {
+    sheet(w, m, 0);
+    sheet(w, m, 1);
+    sheet(w, m, 63);
+    sheet(w, m, 64);
+    sheet(w, m, 127);
+    damaged(w, m, 0);
+    damaged(w, m, 8);
+    damaged(w, m, 17);
+    damaged(w, m, 20);
+    damaged(w, m, 30);
+    damaged(w, m, 70);
+    damaged(w, m, 150);
+    undamaged(w, m);
+}
+
 fn sample(w: Width) {
     let m = message();
     vectors(w);
     lengths(w, &m);
-    record(w, &m, 0);
-    record(w, &m, 64);
-    record(w, &m, 128);
-    record(w, &m, 192);
-    last(w, &m, 0);
-    last(w, &m, 1);
-    last(w, &m, 55);
-    last(w, &m, 56);
-    last(w, &m, 63);
+    records(w, &m);
+    lasts(w, &m);
     imports(w);
+    sheets(w, &m);
 }
 
 fn main() {

@@ -3,8 +3,8 @@ use libc::STDOUT_FILENO;
 use ripemd::State;
 use ripemd::Width;
 
-fn named(w: Width, kind: &[u8], name: &[u8], bytes: &[u8]) {
-    let mut out = [0u8; 256];
+pub fn named(w: Width, kind: &[u8], name: &[u8], bytes: &[u8]) {
+    let mut out = [0u8; 640];
     let a = text::decimal(&mut out, 0, 8 * front::digest_length(w) as u64);
     let b = text::bytes(&mut out, a, b" ");
     let c = text::bytes(&mut out, b, kind);
@@ -16,6 +16,13 @@ fn named(w: Width, kind: &[u8], name: &[u8], bytes: &[u8]) {
     io::write_all(STDOUT_FILENO, text::first(&out, n));
 }
 
+// The same under a number.
+pub fn bytes_at(w: Width, kind: &[u8], number: usize, bytes: &[u8]) {
+    let mut name = [0u8; 20];
+    let n = text::decimal(&mut name, 0, number as u64);
+    named(w, kind, text::first(&name, n), bytes);
+}
+
 // The digest of a state, under a name.
 pub fn digest(w: Width, kind: &[u8], name: &[u8], s: State) {
     let mut out = [0u8; 40];
@@ -25,23 +32,30 @@ pub fn digest(w: Width, kind: &[u8], name: &[u8], s: State) {
 
 // The same under a number.
 pub fn digest_at(w: Width, kind: &[u8], number: usize, s: State) {
-    let mut name = [0u8; 20];
-    let n = text::decimal(&mut name, 0, number as u64);
-    digest(w, kind, text::first(&name, n), s);
+    let mut out = [0u8; 40];
+    front::finish(s, &mut out);
+    bytes_at(w, kind, number, text::first(&out, front::digest_length(w)));
 }
 
 // The record of a state, under a number.
 pub fn record_at(w: Width, number: usize, s: State) {
-    let mut name = [0u8; 20];
-    let n = text::decimal(&mut name, 0, number as u64);
     let mut out = [0u8; 48];
     front::export(s, &mut out);
-    named(
+    bytes_at(
         w,
         b"record",
-        text::first(&name, n),
+        number,
         text::first(&out, front::record_length(w)),
     );
+}
+
+// Number and place of reading a text, a byte each.
+pub fn readout(text: &[u8]) -> [u8; 2] {
+    let r = sheet::read(text);
+    let mut out = [0u8; 2];
+    words::bytes::put(&mut out, 0, 1, r.number as u64);
+    words::bytes::put(&mut out, 1, 1, r.place as u64);
+    out
 }
 
 // A number of import, under a name.

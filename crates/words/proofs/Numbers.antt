@@ -8,7 +8,7 @@ use native.Mathlib.Nat.{div-lt-iff-lt-mul, pow-suc, pow-le-pow-right}
 use native.Mathlib.Numerals.{add-one}
 use lib.Dec.{lit<}
 use lib.ListN.{length, getD, take, drop, replicate, set, length-append, length-take, length-drop}
-use lib.Seq.{drop-drop, getD-take, getD-drop, drop-cons, take-suc, take-at, drop-at, length-take-le, take-add, set-at, append-snoc}
+use lib.Seq.{drop-drop, getD-take, getD-drop, drop-cons, take-suc, take-at, drop-at, length-take-le, take-add, set-at, append-snoc, take-append-le, drop-append-le}
 use Rattle.words.specs.Bytes.{bytesOf, numberOf, wordBytes, wordsOf, Below}
 
 -- ---- how long
@@ -178,3 +178,20 @@ words-below (suc n) l a h =
     let ld : length (drop 4 l) ≡ length l - 4 = length-drop 4 l in
     let l4 : length (take 4 l) ≡ 4 = length-take-le 4 l (omega arith) in
     (rw l4 at (number-below (take 4 l) (below-take 256 4 l a)), words-below n (drop 4 l) (below-drop 256 4 l a) (omega arith))
+
+-- bytes are bytes, whatever the number
+pub bytes-below : (n x : ℕ) → Below 256 (bytesOf n x)
+bytes-below zero x = tt
+bytes-below (suc n) x = (omega arith, bytes-below n (x / 256))
+
+pub word-bytes-below : (ws : List ℕ) → Below 256 (wordBytes ws)
+word-bytes-below [] = tt
+word-bytes-below (w ∷ ws) = below-append 256 (bytesOf 4 w) (wordBytes ws) (bytes-below 4 w) (word-bytes-below ws)
+
+-- words are read from their own bytes
+pub words-front : (n : ℕ) (a b : List ℕ) → length a ≡ 4 * n → wordsOf n (a ++ b) ≡ wordsOf n a
+words-front zero a b h = refl
+words-front (suc n) a b h =
+    let k : 4 ≤ length a = omega arith in
+    let d : length (drop 4 a) ≡ 4 * n = length-drop 4 a ∙ (omega arith) in
+    rw (take-append-le 4 a b k, drop-append-le 4 a b k, words-front n (drop 4 a) b d)

@@ -2,7 +2,7 @@
 -- Assumes nothing.
 use mathlib.Core.Path.{refl}
 use native.Mathlib.Omega.{arith}
-use Rattle.rmd160.proofs.Placed.{within, none, more}
+use Rattle.text.proofs.Placed.{within, none, more}
 use borrow.Author.Needs.{needs}
 use Rattle.rmd160.proofs.output.error.Statement.{statement}
 use Rattle.rmd160.proofs.output.error.Tie as tie
@@ -16,7 +16,7 @@ bytes-requires c κs = search needs
 returns : tie.Need-returns
 returns c =
     let a = c .before .before .before .before .args in
-    let p = more (none _ refl) (a .line .now) (omega arith) _ _ (c .before .bytes .ensures) in
+    let p = more (none {m = 96} _ refl) (a .line .now) (omega arith) _ _ (c .before .bytes .ensures) in
     (within p (omega arith), p .is)
 
 pub error-spec : {M : Type 1} → statement M

@@ -8,9 +8,10 @@ use Rattle.ripemd.specs.Finish.{digestOf, finishBytes}
 use Rattle.ripemd.proofs.Well.{well}
 use Rattle.ripemd.proofs.Outcomes.{accepted}
 use Rattle.ripemd.proofs.Calls.{finish-right}
-use Rattle.text.specs.Text.{decimalOf, hexOf}
-use Rattle.rmd160.specs.Lines.{ascii, linesOf}
-use Rattle.rmd160.proofs.Placed.{within, none, more, decimal-long, hex-long}
+use Rattle.text.specs.Text.{ascii, decimalOf, hexOf}
+use Rattle.text.proofs.Halves.{length-hex}
+use Rattle.text.proofs.Placed.{within, none, more, decimal-long}
+use Rattle.rmd160.specs.Lines.{linesOf}
 use borrow.Author.Needs.{needs}
 use Rattle.rmd160.proofs.output.lines.Statement.{statement}
 use Rattle.rmd160.proofs.output.lines.Tie as tie
@@ -81,8 +82,8 @@ returns c =
     let d = finished .finish .last .1 .0 in
     let dl = decimal-long (summed .bytes-taken .result .0) in
     let ld : length d ≡ 20 = search needs in
-    let hl = hex-long d in
-    let p₁ = more (none _ refl) (ascii "width=160\nbytes=") (omega arith) _ _ (begun .bytes .ensures) in
+    let hl = length-hex d in
+    let p₁ = more (none {m = 96} _ refl) (ascii "width=160\nbytes=") (omega arith) _ _ (begun .bytes .ensures) in
     let p₂ = more p₁ x (simp length-append (omega arith)) _ _ (counted .decimal .ensures) in
     let p₃ = more p₂ (ascii "\ndigest=") (simp length-append (omega arith)) _ _ (keyed .bytes2 .ensures) in
     let p₄ = more p₃ (hexOf d) (simp length-append (omega arith)) _ _ (hexed .hex .ensures) in

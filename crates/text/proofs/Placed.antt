@@ -1,30 +1,34 @@
--- Laws of a text that grows at the front of a buffer.
+-- Laws of a text that grows at the front of a buffer, and how long a number is in it.
 -- Assumes nothing.
-use Prim.Native.Nat.{ℕ, zero, suc, _+_, _*_, _/_, _%_, _≤_}
-use mathlib.Core.Path.{_≡_, refl, _∙_}
+use Prim.Native.Nat.{ℕ, zero, suc, _+_, _/_, _%_, _≤_}
+use mathlib.Core.Path.{_≡_, refl, sym, _∙_}
 use mathlib.Core.Bool.{Bool, true, false, cond}
 use mathlib.Core.List.{List, [], _∷_, _++_}
 use native.Mathlib.Omega.{arith}
 use borrow.Author.Tests.{le-leb}
 use lib.Dec.{ltb}
 use lib.ListN.{length, take, length-append}
-use lib.Seq.{paste, length-paste, take-paste, take-length}
-use Rattle.text.specs.Text.{digitsOf, decimalOf, hexOf, putAt, nextAt}
+use lib.Seq.{paste, length-paste, take-paste, take-length, take-all}
+use Rattle.text.specs.Text.{digitsOf, decimalOf, putAt, nextAt}
 
--- the text t stands at the front of the buffer o, of 96 bytes, up to n
-pub record Placed (o : List ℕ) (n : ℕ) (t : List ℕ) : Type 0 where
-  pub room : length o ≡ 96
+-- the text t stands at the front of the buffer o, of m bytes, up to n
+pub record Placed (m : ℕ) (o : List ℕ) (n : ℕ) (t : List ℕ) : Type 0 where
+  pub room : length o ≡ m
   pub long : n ≡ length t
   pub is : take n o ≡ t
 
-pub within : {o : List ℕ} {n : ℕ} {t : List ℕ} → Placed o n t → length t ≤ 96 → n ≤ 96
+pub within : {m : ℕ} {o : List ℕ} {n : ℕ} {t : List ℕ} → Placed m o n t → length t ≤ m → n ≤ m
 within p h = omega (arith, p .long)
 
-pub none : (o : List ℕ) → length o ≡ 96 → Placed o 0 []
+pub none : {m : ℕ} (o : List ℕ) → length o ≡ m → Placed m o 0 []
 none o h = record { room = h; long = refl; is = refl }
 
+-- a text that fills the buffer
+pub filled : {m : ℕ} {o : List ℕ} {n : ℕ} {t : List ℕ} → Placed m o n t → length t ≡ m → o ≡ t
+filled {m} {o} {n} {t} p h = sym (take-all n o (omega (arith, p .room, p .long))) ∙ p .is
+
 -- a further text is put where the first one ends
-module _ {o : List ℕ} {n : ℕ} {t : List ℕ} (p : Placed o n t) (u : List ℕ) (h : length t + length u ≤ 96) where
+module _ {m : ℕ} {o : List ℕ} {n : ℕ} {t : List ℕ} (p : Placed m o n t) (u : List ℕ) (h : length t + length u ≤ m) where
   is-paste : putAt o n u ≡ paste o n u (length u)
   unfolding putAt
   is-paste = let l : n + length u ≤ length o = omega (arith, p .room, p .long) in rw (le-leb (n + length u) (length o) l, take-length u)
@@ -33,7 +37,7 @@ module _ {o : List ℕ} {n : ℕ} {t : List ℕ} (p : Placed o n t) (u : List �
   unfolding nextAt
   is-next = let l : n + length u ≤ length o = omega (arith, p .room, p .long) in rw (le-leb (n + length u) (length o) l)
 
-  pub more : (o₁ : List ℕ) (n₁ : ℕ) → (n₁ ≡ nextAt o n u) × (o₁ ≡ putAt o n u) → Placed o₁ n₁ (t ++ u)
+  pub more : (o₁ : List ℕ) (n₁ : ℕ) → (n₁ ≡ nextAt o n u) × (o₁ ≡ putAt o n u) → Placed m o₁ n₁ (t ++ u)
   more o₁ n₁ e =
       rw (e .0, e .1, is-next, is-paste)
       record {
@@ -54,7 +58,3 @@ digits-long (suc n) x = by-test (ltb x 10) (digits-long n (x / 10))
 pub decimal-long : (x : ℕ) → length (decimalOf x) ≤ 20
 unfolding decimalOf
 decimal-long x = digits-long 20 x
-
-pub hex-long : (l : List ℕ) → length (hexOf l) ≡ 2 * length l
-hex-long [] = refl
-hex-long (b ∷ l) = omega (arith, hex-long l)

@@ -1,0 +1,5 @@
+pub mod Feeds
+pub mod Numbers
+pub mod Turns
+pub mod Taken
+pub mod Whole

@@ -1,0 +1,3 @@
+pub mod Sheet
+pub mod Reading
+pub mod Examples
