@@ -26,7 +26,7 @@ progress() {
     for part in $(sed -n "s/^$crate://p" "$here/crates.txt") "$crate"; do
         [ ! -d "$here/crates/$part" ] || total=$((total + 1))
     done
-    say "proving and building the program, $total crates: a minute or two, the first time and after a change"
+    say "proving and building the program, $total crates: a few minutes, the first time and after a change"
     while read -r speaker part words; do
         case "$speaker $words" in
             "rt: proved"*)

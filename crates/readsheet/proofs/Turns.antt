@@ -1,52 +1,30 @@
 -- What each way out of a read comes to.
 -- Assumes nothing.
-use Prim.Native.Nat.{ℕ, min}
-use mathlib.Core.Path.{_≡_, refl, sym, ap, _∙_}
-use mathlib.Core.Bool.{Bool, true, false}
+use Prim.Native.Nat.{ℕ}
+use mathlib.Core.Path.{_≡_, refl}
+use mathlib.Core.Bool.{true, false}
 use mathlib.Core.List.{List, [], _∷_}
-use native.Mathlib.Omega.{arith}
-use borrow.Author.Tests.{ltb-true, leb-true, leb-false, eq-eqb, ne-eqb}
-use lib.Dec.{leb}
-use lib.IntN.{ℤ, pos, negsuc}
+use borrow.Author.Tests.{eq-eqb, ne-eqb}
+use lib.IntN.{ℤ, pos}
 use lib.Signed.{ltZ}
 use lib.ListN.{length, take}
-use lib.Seq.{take-all}
 use Rattle.io.specs.Counts.{clamped}
+use Rattle.input.proofs.Answers as answers
 use Rattle.readsheet.specs.Reading.{keepOf, keptTurn, pieceTurn, turnOf}
 use Rattle.readsheet.specs.declared.Ending.the-variants.{Done, Failed}
 use Rattle.readsheet.specs.declared.Step.the-variants.{More, End}
 use Rattle.readsheet.specs.declared.Kept.{Kept}
 
-take-least : (n : ℕ) (b : List ℕ) → take (min n (length b)) b ≡ take n b
-take-least n b = by-test (leb n (length b)) refl
-  where
-    by-test : (t : Bool) → leb n (length b) ≡ t → take (min n (length b)) b ≡ take n b
-    by-test true e =
-        let l = leb-true n (length b) e in
-        let m : min n (length b) ≡ n = omega arith in
-        ap (λ (i : ℕ). take i b) m
-    by-test false e =
-        let l = leb-false n (length b) e in
-        take-all (min n (length b)) b (omega arith) ∙ sym (take-all n b (omega arith))
-
 -- The code holds read's answer as a machine's number, z.
 module _ (k : Kept) {z got : ℤ} (same : z ≡ got) (b : List ℕ) where
   pub failed : ltZ z (pos 0) ≡ true → record { step = End Failed; kept = k } ≡ turnOf k got b
   unfolding turnOf
-  failed e = by-sign got (ap (λ (x : ℤ). ltZ x (pos 0)) (sym same) ∙ e)
-    where
-      by-sign : (x : ℤ) → ltZ x (pos 0) ≡ true → record { step = End Failed; kept = k } ≡ turnOf k x b
-      by-sign (pos n) e = absurd (omega (arith, ltb-true n 0 e))
-      by-sign (negsuc n) e = refl
+  failed = answers.failed (pieceTurn k) (record { step = End Failed; kept = k }) same b
 
   -- what was read stands at the front of the buffer
   pub piece : (n : ℕ) → ltZ z (pos 0) ≡ false → n ≡ clamped z (length b) → pieceTurn k (take n b) ≡ turnOf k got b
   unfolding turnOf
-  piece n e h = by-sign got (ap (λ (x : ℤ). ltZ x (pos 0)) (sym same) ∙ e) (h ∙ ap (λ (x : ℤ). clamped x (length b)) same)
-    where
-      by-sign : (x : ℤ) → ltZ x (pos 0) ≡ false → n ≡ clamped x (length b) → pieceTurn k (take n b) ≡ turnOf k x b
-      by-sign (pos i) e h = rw (h, take-least i b)
-      by-sign (negsuc i) e h = absurd (let q : _≡_ {A = ℕ} 0 1 = cc in omega arith)
+  piece = answers.piece (pieceTurn k) (record { step = End Failed; kept = k }) same b
 
 pub some : (k : Kept) (p : List ℕ) → (length p ≡ 0 → ⊥) → keptTurn (keepOf k p) ≡ pieceTurn k p
 some k [] h = absurd (h refl)

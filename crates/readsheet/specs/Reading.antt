@@ -5,9 +5,10 @@ use mathlib.Core.Path.{_≡_}
 use mathlib.Core.Bool.{cond}
 use mathlib.Core.List.{List, [], _∷_}
 use lib.Dec.{eqb}
-use lib.IntN.{ℤ, pos, negsuc}
+use lib.IntN.{ℤ}
 use lib.ListN.{length, take}
 use Rattle.text.specs.Text.{putAt, nextAt}
+use Rattle.input.specs.Read.{answered}
 use Rattle.readsheet.specs.Lines.{answerOf}
 use Rattle.readsheet.specs.declared.Ending.the-variants.{Done, Failed}
 use Rattle.readsheet.specs.declared.Step.the-variants.{More, End}
@@ -33,10 +34,9 @@ abbrev pub pieceTurn : Kept → List ℕ → Turn
 pieceTurn k [] = record { step = End Done; kept = k }
 pieceTurn k (b ∷ bs) = keptTurn (keepOf k (b ∷ bs))
 
--- a negative answer of read is a failure; any other counts the bytes at the front of its buffer
+-- a read that answers got, with its buffer
 unfoldable pub turnOf : Kept → ℤ → List ℕ → Turn
-turnOf k (pos n) buffer = pieceTurn k (take n buffer)
-turnOf k (negsuc n) buffer = record { step = End Failed; kept = k }
+turnOf k got buffer = answered (pieceTurn k) (record { step = End Failed; kept = k }) got buffer
 
 -- r is what one read makes of k, whatever that read answers and puts into its buffer: no contract can say what is read
 pub record Turned (k : Kept) (r : Turn) : Type 0 where

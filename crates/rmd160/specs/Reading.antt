@@ -5,13 +5,14 @@ use mathlib.Core.Path.{_≡_}
 use mathlib.Core.List.{List, [], _∷_}
 use mathlib.Core.Bool.{cond}
 use lib.Dec.{eqb}
-use lib.IntN.{ℤ, pos, negsuc}
+use lib.IntN.{ℤ}
 use lib.ListN.{length, take}
 use Rattle.compress.specs.declared.Width.the-variants.{W160}
 use Rattle.ripemd.specs.State.{freshOf}
 use Rattle.ripemd.specs.Feed.{fedState, feedOf}
 use Rattle.ripemd.specs.declared.State.{State}
 use Rattle.ripemd.specs.declared.Fed.{Fed}
+use Rattle.input.specs.Read.{answered}
 use Rattle.rmd160.specs.Lines.{answerOf}
 use Rattle.rmd160.specs.declared.Ending.the-variants.{Done, Failed, TooLong}
 use Rattle.rmd160.specs.declared.Step.the-variants.{More, End}
@@ -28,10 +29,9 @@ abbrev pub pieceTurn : State → List ℕ → Turn
 pieceTurn s [] = record { step = End Done; state = s }
 pieceTurn s (b ∷ bs) = fedTurn (feedOf s (b ∷ bs))
 
--- a negative answer of read is a failure; any other counts the bytes at the front of its buffer
+-- a read that answers got, with its buffer
 unfoldable pub turnOf : State → ℤ → List ℕ → Turn
-turnOf s (pos n) buffer = pieceTurn s (take n buffer)
-turnOf s (negsuc n) buffer = record { step = End Failed; state = s }
+turnOf s got buffer = answered (pieceTurn s) (record { step = End Failed; state = s }) got buffer
 
 -- r is what one read makes of s, whatever that read answers and puts into its buffer: no contract can say what is read
 pub record Turned (s : State) (r : Turn) : Type 0 where
