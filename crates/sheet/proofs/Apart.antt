@@ -1,11 +1,12 @@
 -- A text of a sheet's shape, taken apart: its parts stand where reading looks for them, and it is the sheet of what they are.
 -- Assumes nothing.
-use Prim.Native.Nat.{ℕ, _+_, _*_, _/_, _%_, _≤_}
+use Prim.Native.Nat.{ℕ, _+_, _*_, _/_, _%_, _≤_, _<_}
 use mathlib.Core.Path.{_≡_, refl, ap, sym, _∙_}
 use mathlib.Core.List.{List, [], _∷_, _++_}
 use native.Mathlib.Omega.{arith}
 use lib.ListN.{length, take, drop, length-append, length-drop, take-append-drop}
 use lib.Seq.{drop-drop, length-take-le}
+use Rattle.words.specs.Bytes.{Below}
 use Rattle.compress.specs.Block.{usedOf}
 use Rattle.compress.specs.declared.Width.{Width}
 use Rattle.text.specs.Text.{decimalOf, hexOf}
@@ -134,8 +135,17 @@ module _ (w : Width) (l : List ℕ) (h : Right (shapeOf w) l) where
       ∙ ap (λ (m : List ℕ). take k (drop q l) ++ m) last)))))
       ∙ rw (count-text, words-text, tail-text) (sym (in-parts w (countIn l) (wordBytesIn n l) (tailIn n l)))
 
+  -- what is read are bytes, as many words as the width has, and a tail shorter than a block
+  pub words-read : Below 256 (wordBytesIn n l) × (length (wordBytesIn n l) ≡ n)
+  unfolding wordBytesIn
+  words-read = (unhex-below n (take (2 * n) (drop p l)) words-long, unhex-long n (take (2 * n) (drop p l)) words-long)
+
+  pub tail-read : Below 256 (tailIn n l) × (length (tailIn n l) < 64)
+  unfolding tailIn
+  tail-read = (unhex-below (k / 2) (take k (drop q l)) tail-long, omega (arith, tail-bytes, tail-few .1))
+
   pub shaped : Shaped l
-  unfolding wordBytesIn tailIn countIn
+  unfolding countIn
   shaped =
       record {
         width = w;
@@ -143,9 +153,9 @@ module _ (w : Width) (l : List ℕ) (h : Right (shapeOf w) l) where
         words = wordBytesIn n l;
         tail = tailIn n l;
         digits = numeral-below (take d (drop 17 l)) (digits-numeral (drop 17 l) (counted .0));
-        words-are = unhex-below n (take (2 * n) (drop p l)) words-long;
-        words-long = unhex-long n (take (2 * n) (drop p l)) words-long;
-        tail-are = unhex-below (k / 2) (take k (drop q l)) tail-long;
-        tail-long = omega (arith, tail-bytes, tail-few .1);
+        words-are = words-read .0;
+        words-long = words-read .1;
+        tail-are = tail-read .0;
+        tail-long = tail-read .1;
         is = apart;
       }

@@ -20,7 +20,7 @@ use Rattle.ripemd.proofs.Recorded.{used-bytes}
 use Rattle.ripemd.proofs.Kept.{Sound}
 use Rattle.ripemd.proofs.Shown.{words-chaining, words-shown, fill-long, tail-shown}
 use Rattle.sheet.specs.Sheet.{wordsShown, tailShown, textOf, sheetOf}
-use Rattle.sheet.specs.Reading.{stateWith}
+use Rattle.sheet.specs.Reading.{stateWith, Plain}
 
 -- ---- a sound state: its parts are what a sheet may show, and they make the state again
 module _ (s : State) (k : Sound s) where
@@ -53,6 +53,14 @@ module _ (w : Width) (n : ℕ) (h t : List ℕ) (hb : Below 256 h) (hl : length 
   chaining : Chaining w (wordsIn w h)
   chaining = words-chaining w h hb (omega arith)
 
+  pub made-plain : Plain (stateWith w n h t)
+  unfolding stateWith
+  made-plain = (
+    tl,
+    ap zeros (drop-at t (replicate (64 - length t) 0) (length t) refl) ∙ zeros-replicate (64 - length t),
+    ap zeros (chaining .spare) ∙ zeros-replicate (10 - usedOf w),
+  )
+
   pub made-sound : n < 2 ^ 55 → (n ≡ 0 → wordsIn w h ≡ initialOf w) → Below 256 t → Sound (stateWith w n h t)
   unfolding stateWith
   made-sound c b tb =
@@ -60,8 +68,8 @@ module _ (w : Width) (n : ℕ) (h t : List ℕ) (hb : Below 256 h) (hl : length 
         well = record {
           fill = tl;
           count = c;
-          tail = ap zeros (drop-at t (replicate (64 - length t) 0) (length t) refl) ∙ zeros-replicate (64 - length t);
-          spare = ap zeros (chaining .spare) ∙ zeros-replicate (10 - usedOf w);
+          tail = made-plain .1;
+          spare = made-plain .2;
           start = b;
         };
         tail = length-append t (replicate (64 - length t) 0) ∙ omega (arith, length-replicate {A = ℕ} (64 - length t) 0);

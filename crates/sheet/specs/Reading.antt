@@ -1,7 +1,8 @@
 -- What reading a sheet gives.
 -- Assumes nothing.
-use Prim.Native.Nat.{ℕ, _+_, _*_, _^_}
-use mathlib.Core.Bool.{Bool, cond, not}
+use Prim.Native.Nat.{ℕ, _+_, _*_, _^_, _<_}
+use mathlib.Core.Path.{_≡_}
+use mathlib.Core.Bool.{Bool, true, cond, not}
 use mathlib.Core.List.{List, [], _∷_, _++_}
 use lib.Dec.{leb, ltb, eqb}
 use lib.ListN.{length, take, drop}
@@ -9,7 +10,7 @@ use Rattle.compress.specs.Block.{usedOf}
 use Rattle.compress.specs.declared.Width.{Width}
 use Rattle.compress.specs.declared.Width.the-variants.{W128, W160, W256, W320}
 use Rattle.ripemd.specs.Refusals.{Row, _when_, first, done}
-use Rattle.ripemd.specs.State.{wrongStart, freshOf, moved}
+use Rattle.ripemd.specs.State.{zeros, wrongStart, freshOf, moved}
 use Rattle.ripemd.specs.Feed.{asTail}
 use Rattle.ripemd.specs.Record.{wordsIn}
 use Rattle.ripemd.specs.declared.State.{State}
@@ -122,6 +123,10 @@ readOf l =
     }
 
 -- ---- the code's two kinds of answer
+-- a state's fill, tail and spare words are right, as they are in every state that a sheet holds
+abbrev pub Plain : State → Type 0
+Plain s = (s .fill < 64) × (zeros (drop (s .fill) (s .tail)) ≡ true) × (zeros (drop (usedOf (s .width)) (s .words)) ≡ true)
+
 -- the number for a sheet that holds s
 unfoldable pub heldNumber : State → ℕ
 heldNumber s = first (heldRows s)

@@ -3,7 +3,7 @@ ghost use mathlib.Core.Path.{_≡_};
 ghost use Prim.Native.Nat.{_<_};
 ghost use lib.ListN.{length};
 ghost use Rattle.shape.specs.Shape.{reach};
-ghost use Rattle.sheet.specs.Reading.{readOf, held, heldNumber, refusedOf, stateAt, shapeOf};
+ghost use Rattle.sheet.specs.Reading.{readOf, held, heldNumber, Plain, refusedOf, stateAt, shapeOf};
 use crate::Readout;
 use crate::fields;
 use crate::reaching;
@@ -35,21 +35,18 @@ fn state_at(s: &[u8], w: Width) -> State
     }
 }
 
-// 5 for a count of 2^55 or more, 7 for a count of 0 with words other than the width's initial ones, else 0.
+// What is wrong with a state that a sheet holds. Its fill, tail and spare words are right, so that a fault is of the count, or else of the start,
+// where no block is counted.
 fn held_number(s: State) -> u32
+    requires { ⌜ Plain s ⌝ }
     ensures { λ r. ⌜ r ≡ heldNumber s ⌝ }
 {
+    if ripemd::fault(s) == 0 {
+        return 0;
+    }
     let count = s.count;
-    if 0x0080_0000_0000_0000 <= count.0 {
-        return 5;
-    }
     if count.0 != 0 {
-        return 0;
-    }
-    let width = s.width;
-    let h = s.words;
-    if compress::is_initial(width, &h) {
-        return 0;
+        return 5;
     }
     7
 }
@@ -66,6 +63,7 @@ fn refused(number: u32, place: usize) -> Readout
 }
 
 fn read_held(s: State) -> Readout
+    requires { ⌜ Plain s ⌝ }
     ensures { λ r. ⌜ r ≡ held s ⌝ }
 {
     let n = held_number(s);
@@ -79,6 +77,7 @@ fn read_held(s: State) -> Readout
     }
 }
 
+// The state of which the text is the sheet.
 pub fn read(sheet: &[u8]) -> Readout
     ensures { λ r. ⌜ r ≡ readOf (now (sheet .entry)) ⌝ }
 {

@@ -64,6 +64,7 @@ fn put_sheet(s: State, out: &mut [u8])
     put_lines(out, width, count.0, &front[..wide], &tail[..fill]);
 }
 
+// The sheet of s, into an output of exactly its length.
 pub fn write(s: State, out: &mut [u8]) -> u32
     ensures { λ r. ⌜ (r ≡ writeNumber s (length (now (out .entry)))) × (now (out .exit) ≡ writeBytes s (now (out .entry))) ⌝ }
 {

@@ -1,47 +1,30 @@
 -- `sheet::reading::held_number` meets its contract.
 -- Assumes nothing.
-use mathlib.Core.Path.{_≡_, sym, ap, _∙_}
-use mathlib.Core.Bool.{true, false, not}
-use borrow.Author.Tests.{le-leb, lt-leb}
-use Rattle.ripemd.specs.State.{wrongStart}
-use Rattle.ripemd.proofs.Starts.{start-past, start-now}
-use Rattle.sheet.specs.Reading.{heldNumber}
+use mathlib.Core.Path.{sym, _∙_}
+use Rattle.sheet.proofs.Answers.{held-right, held-count, held-start}
 use borrow.Author.Needs.{needs}
 use Rattle.sheet.proofs.reading.held_number.Statement.{statement}
 use Rattle.sheet.proofs.reading.held_number.Tie as tie
 
+fault-requires : tie.Need-fault-requires
+fault-requires c κs = search needs
+
 returns : tie.Need-returns
-unfolding heldNumber
-returns c = simp (le-leb _ _ (c .if1 .taken))
+returns c =
+    let o = c .before .before in
+    sym (held-right (o .args .s) (o .pre) (sym (c .before .fault .ensures) ∙ c .if1 .taken))
 
 returns-2 : tie.Need-returns-2
-unfolding heldNumber
 returns-2 c =
-    let s = c .before .before .before .before .before .args .s in
-    rw (lt-leb _ _ (c .before .before .if1 .left), start-past (s .width) (s .words) (s .count .0) (c .if2 .taken))
-
-is-initial-requires : tie.Need-is-initial-requires
-is-initial-requires c κs = search needs
+    let fault = c .before .before .before .before in
+    let o = fault .before in
+    sym (held-count (o .args .s) (o .pre) (λ e. c .before .before .before .if1 .left (fault .fault .ensures ∙ e)) (c .if2 .taken))
 
 returns-3 : tie.Need-returns-3
-unfolding heldNumber
 returns-3 c =
-    let past = c .before .before .before .before in
-    let s = past .before .before .before .before .before .args .s in
-    let e : wrongStart (s .width) (s .words) (s .count .0) ≡ false =
-    start-now (s .width) (s .words) (s .count .0) (past .if2 .left) ∙ ap not (sym (c .before .is-initial .ensures) ∙ c .if3 .taken)
-    in
-    rw (lt-leb _ _ (past .before .before .if1 .left), e)
-
-returns-4 : tie.Need-returns-4
-unfolding heldNumber
-returns-4 c =
-    let past = c .before .before .before .before in
-    let s = past .before .before .before .before .before .args .s in
-    let e : wrongStart (s .width) (s .words) (s .count .0) ≡ true =
-    start-now (s .width) (s .words) (s .count .0) (past .if2 .left) ∙ ap not (sym (c .before .is-initial .ensures) ∙ c .if3 .left)
-    in
-    rw (lt-leb _ _ (past .before .before .if1 .left), e)
+    let fault = c .before .before .before .before in
+    let o = fault .before in
+    sym (held-start (o .args .s) (o .pre) (λ e. c .before .before .before .if1 .left (fault .fault .ensures ∙ e)) (c .if2 .left))
 
 pub held-number-spec : {M : Type 1} → statement M
-held-number-spec = tie.close (tie.spec returns returns-2 is-initial-requires returns-3 returns-4)
+held-number-spec = tie.close (tie.spec fault-requires returns returns-2 returns-3)

@@ -1,14 +1,21 @@
 -- `sheet::reading::read` meets its contract.
 -- Assumes nothing.
 use mathlib.Core.Path.{_≡_, ap, sym, _∙_}
+use Prim.Native.Nat.{ℕ, _*_}
+use mathlib.Core.List.{List}
 use native.Mathlib.Omega.{arith}
 use mathlib.Core.Bool.{true, false}
 use borrow.Author.Needs.{needs}
 use borrow.Author.Tests.{lt-ltb, le-ltb}
 use lib.ListN.{length}
-use Rattle.sheet.specs.declared.Far.{Far}
+use Rattle.compress.specs.Block.{usedOf}
+use Rattle.compress.specs.declared.Width.{Width}
 use Rattle.shape.specs.Shape.{reach}
-use Rattle.sheet.specs.Reading.{sheetShape, isSheet, stateAt, held, refusedOf}
+use Rattle.shape.proofs.Reach.{Right}
+use Rattle.sheet.specs.declared.Far.{Far}
+use Rattle.sheet.specs.Reading.{shapeOf, sheetShape, isSheet, widthIn, countIn, wordBytesIn, tailIn, stateAt, Plain, held, refusedOf}
+use Rattle.sheet.proofs.Apart.{words-read, tail-read}
+use Rattle.sheet.proofs.States.{made-plain}
 use Rattle.sheet.proofs.Answers.{read-right, read-wrong, far-all, far-width}
 use Rattle.sheet.proofs.reading.read.Statement.{statement}
 use Rattle.sheet.proofs.reading.read.Tie as tie
@@ -34,8 +41,17 @@ state-at-requires c κs =
     let p : c .before .farthest .result .place ≡ reach sheetShape l = ap (λ (f : Far). f .place) e ∙ far-all l in
     rw e (far-width l (omega (arith, c .if1 .left)))
 
+-- the state in a sheet of a width
+plain : (w : Width) (l : List ℕ) → Right (shapeOf w) l → Plain (stateAt w l)
+plain w l h =
+    made-plain w (countIn l) (wordBytesIn (4 * usedOf w) l) (tailIn (4 * usedOf w) l) (words-read w l h .0) (words-read w l h .1) (tail-read w l h .1)
+
 read-held-requires : tie.Need-read-held-requires
-read-held-requires c κs = search needs
+read-held-requires c κs =
+    let l = c .before .before .before .before .args .sheet .now in
+    let e = c .before .before .farthest .ensures in
+    let p : c .before .before .farthest .result .place ≡ reach sheetShape l = ap (λ (f : Far). f .place) e ∙ far-all l in
+    rw (c .state-at .ensures, e) (plain (widthIn l) l (far-width l (omega (arith, c .before .if1 .left))))
 
 returns-2 : tie.Need-returns-2
 returns-2 c =
