@@ -241,13 +241,17 @@ fn widths_that_there_are_not() {
 #[test]
 fn numbers_and_what_to_do() {
     const SHAPE: SheetError = SheetError::Shape { place: 26, line: 3 };
-    for (error, number, says) in [
-        (SHAPE, Some(8), "line 3, after 26 bytes"),
-        (SheetError::Count, Some(5), "line 2"),
-        (SheetError::Words, Some(7), "lines 2 and 3"),
+    let header = include_str!("../../include/ripemd.h");
+    for (error, name, says) in [
+        (SHAPE, Some("SHEET_SHAPE"), "line 3, after 26 bytes"),
+        (SheetError::Count, Some("RECORD_COUNT"), "line 2"),
+        (SheetError::Words, Some("RECORD_WORDS"), "lines 2 and 3"),
         (SheetError::Width { bits: 320 }, None, "Ripemd320"),
     ] {
-        assert_eq!(error.number(), number);
+        assert_eq!(error.number().is_some(), name.is_some());
+        if let (Some(number), Some(name)) = (error.number(), name) {
+            assert!(header.contains(&format!("RIPEMD_{name} = {number}")));
+        }
         let told = error.to_string();
         assert!(told.contains(says), "{told}");
         assert!(told.contains(": "), "what to do follows a colon");
