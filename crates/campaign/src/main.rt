@@ -52,7 +52,8 @@ fn resumed(w: Width, s: State) -> Run
     ensures { λ r. ⌜ r .number ≤ 1 ⌝ }
 {
     let mut record = [0u8; 48];
-    if front::export(s, &mut record) != 0 {
+    let e = front::export(s, &mut record);
+    if e.number != 0 {
         return Run {
             state: s,
             number: 0,

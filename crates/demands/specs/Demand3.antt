@@ -34,9 +34,10 @@ use Rattle.ripemd.proofs.Resumed.{Importable, import-takes, import-sound, recor
 use Rattle.sheet.specs.Sheet.{Shaped, sheetOf, writeNumber, writeBytes}
 use Rattle.sheet.specs.Reading.{stateWith, readOf}
 use Rattle.sheet.specs.declared.Readout.{Readout}
+use Rattle.sheet.proofs.Written.{write-right}
 use Rattle.sheet.proofs.Again.{read-sheet, accepted-sheet, read-accepted}
 use Rattle.demands.specs.Demand1.{feed-refused, export-refused}
-use Rattle.demands.specs.Sheets.{write-numbers, write-done}
+use Rattle.demands.specs.Sheets.{write-done}
 
 -- s is reached from s₀ with the message m: by pieces, of bytes, that feed takes, and by calls that add nothing to the message
 pub data Reach (s₀ : State) : List ℕ → State → Type 0 where
@@ -156,7 +157,7 @@ module _ (w : Width) (h : List ℕ) (c : ℕ) (k₀ : Sound (between w h c)) {m 
   -- a piece is taken exactly while the bytes stay below 2^61; else the number is 1, and the state is handed back
   pub chain-feed : (p : List ℕ)
       → (64 * c + length m + length p < 2 ^ 61 → feedOf s p .number ≡ 0)
-      × (2 ^ 61 ≤ 64 * c + length m + length p → feedOf s p ≡ record { number = 1; state = s })
+      × (2 ^ 61 ≤ 64 * c + length m + length p → feedOf s p ≡ record { number = 1; state = s; index = 0 })
   chain-feed p =
       let b = k .taken in (
         λ l. ap (λ (f : Fed). f .number) (feed-takes s (sound-fine (k .sound)) p (omega arith)),
@@ -181,7 +182,7 @@ module _ (w : Width) (h : List ℕ) (c : ℕ) (k₀ : Sound (between w h c)) {m 
   -- write is done wherever the message stands, and its sheet is read as the same state
   pub chain-sheet : (o : List ℕ) → length o ≡ length (sheetOf s)
       → (writeNumber s (length o) ≡ 0) × (readOf (writeBytes s o) ≡ record { number = 0; place = 0; state = s })
-  chain-sheet o l = let e = write-numbers s o .1 .1 .1 ((tt, λ n. n (k .sound .well)), λ n. n l) in (e, read-again s o (k .sound) e)
+  chain-sheet o l = let e = write-right s (sound-fine (k .sound)) (length o) l in (e, read-again s o (k .sound) e)
 
 -- ---- from a fresh state
 module _ (w : Width) {m : List ℕ} {s : State} (r : Reach (freshOf w) m s) where
@@ -198,7 +199,7 @@ module _ (w : Width) {m : List ℕ} {s : State} (r : Reach (freshOf w) m s) wher
 
   pub reached-feed : (p : List ℕ)
       → (length m + length p < 2 ^ 61 → feedOf s p .number ≡ 0)
-      × (2 ^ 61 ≤ length m + length p → feedOf s p ≡ record { number = 1; state = s })
+      × (2 ^ 61 ≤ length m + length p → feedOf s p ≡ record { number = 1; state = s; index = 0 })
   reached-feed p =
       let t = chain-feed w (initialOf w) 0 (fresh-sound w) r p in
       (λ l. t .0 (omega arith), λ l. t .1 (omega arith))
@@ -268,7 +269,7 @@ module _ (w : Width) (r : List ℕ) (b : Below 256 r) (ok : importOf w r .number
 
   pub record-feed : {m : List ℕ} {s : State} → Reach (importOf w r .state) m s → (p : List ℕ)
       → (64 * countIn w r + length m + length p < 2 ^ 61 → feedOf s p .number ≡ 0)
-      × (2 ^ 61 ≤ 64 * countIn w r + length m + length p → feedOf s p ≡ record { number = 1; state = s })
+      × (2 ^ 61 ≤ 64 * countIn w r + length m + length p → feedOf s p ≡ record { number = 1; state = s; index = 0 })
   record-feed q p = chain-feed w (wordsIn w r) (countIn w r) (import-sound w r good b) (from-words q) p
 
 -- ---- from any text l that reading accepts: what is pending in it stands before what is fed

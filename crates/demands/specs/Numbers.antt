@@ -1,13 +1,14 @@
 -- A call's numbers, exactly: each is given just where its own condition holds and none before it, and 0 just where none holds.
 -- Assumes nothing.
 use Prim.Native.Nat.{ℕ}
-use mathlib.Core.Path.{_≡_, refl, sym, _∙_}
-use mathlib.Core.Bool.{Bool, true, false, not, cond, true≢false}
-use mathlib.Core.List.{List, [], _∷_}
-use mathlib.Core.Logic.{_↔_}
-use borrow.Author.Tests.{eq-eqb}
+use mathlib.Core.Path.{_≡_, refl, sym}
+use mathlib.Core.Bool.{Bool, true, false, not, cond}
+use mathlib.Core.List.{List, [], _∷_, _++_}
+use mathlib.Core.Logic.{_↔_, _⊎_, inl, inr}
+use borrow.Author.Tests.{ne-eqb}
 use lib.Dec.{eqb}
 use Rattle.ripemd.specs.Refusals.{Row, _when_, found, first}
+use Rattle.ripemd.proofs.Well.{Numbered}
 
 -- a table of numbers for x, where `before` says that no earlier condition holds: n exactly where C is the first, then the rest
 abbrev pub number : ℕ → Type 0 → (Type 0 → ℕ → Type 0) → Type 0 → ℕ → Type 0
@@ -16,6 +17,16 @@ number n C rest before x = (x ≡ n ↔ before × C) × rest (before × (¬ C)) 
 -- the end of the table: 0 exactly where no condition holds
 abbrev pub nothing : Type 0 → ℕ → Type 0
 nothing before x = x ≡ 0 ↔ before
+
+-- n is one of these
+abbrev pub OneOf : ℕ → List ℕ → Type 0
+OneOf n [] = ⊥
+OneOf n (m ∷ ms) = (n ≡ m) ⊎ OneOf n ms
+
+-- a call's number x: as the table says, and one of these
+pub record Given (ns : List ℕ) (table : Type 0 → ℕ → Type 0) (x : ℕ) : Type 0 where
+  pub exactly : table (Unit {0}) x
+  pub only : OneOf x ns
 
 -- ---- that the first row whose condition holds has these numbers
 -- x is none of the rows' numbers, nor 0
@@ -55,10 +66,37 @@ one-row n c C rs rest so not-so other d = record { on = holds; off = fails }
     fails : (B : Type 0) → ¬ B → (x : ℕ) → Other ((n when c) ∷ rs) x → number n C rest B x
     fails B nb x o = ((λ e. absurd (o .0 e), λ q. absurd (nb (q .0))), d .off (B × (¬ C)) (λ q. nb (q .0)) x (o .1))
 
--- a fault that is 0 or n has the row of n
-pub found-is : (f n : ℕ) (rs : List Row) → (¬ (f ≡ 0) → f ≡ n) → first (found f ∷ rs) ≡ first ((n when not (eqb f 0)) ∷ rs)
-found-is f n rs h = by-test (eqb f 0) refl
+-- ---- rows that stand in one row of a call's table
+-- what some rows find, and then further rows, are all these rows
+pub found-first : (fs rs : List Row) → Numbered fs → first (found (first fs) ∷ rs) ≡ first (fs ++ rs)
+found-first [] rs k = refl
+found-first (f ∷ fs) rs k = by-test (f .1) (found-first fs rs (k .1))
   where
-    by-test : (b : Bool) → eqb f 0 ≡ b → cond (not b) f (first rs) ≡ cond (not b) n (first rs)
-    by-test true e = refl
-    by-test false e = h (λ z. true≢false (sym (eq-eqb f 0 z) ∙ e))
+    by-test : (b : Bool) → first (found (first fs) ∷ rs) ≡ first (fs ++ rs) → first (found (cond b (f .0) (first fs)) ∷ rs) ≡ cond b (f .0) (first (fs ++ rs))
+    by-test true e = rw (ne-eqb (f .0) 0 (k .0))
+    by-test false e = e
+
+-- a number that none of the further rows has was found
+pub was-found : (f n : ℕ) (rs : List Row) → Other rs n → first (found f ∷ rs) ≡ n → f ≡ n
+was-found f n rs o = by-test (eqb f 0)
+  where
+    by-test : (b : Bool) → cond (not b) f (first rs) ≡ n → f ≡ n
+    by-test true e = absurd (first-other rs n o e)
+    by-test false e = e
+
+-- ---- that no other number is given
+-- the rows' numbers, and 0 where none holds
+abbrev pub numbersOf : List Row → List ℕ
+numbersOf [] = 0 ∷ []
+numbersOf (r ∷ rs) = r .0 ∷ numbersOf rs
+
+listed : (rs : List Row) → OneOf (first rs) (numbersOf rs)
+listed [] = inl refl
+listed (r ∷ rs) = by-test (r .1) (listed rs)
+  where
+    by-test : (b : Bool) → OneOf (first rs) (numbersOf rs) → OneOf (cond b (r .0) (first rs)) (r .0 ∷ numbersOf rs)
+    by-test true e = inl refl
+    by-test false e = inr e
+
+pub given : {rs : List Row} {table : Type 0 → ℕ → Type 0} → Decides rs table → Given (numbersOf rs) table (first rs)
+given {rs} d = record { exactly = d .on (Unit {0}) tt; only = listed rs }

@@ -12,7 +12,7 @@ use Rattle.words.specs.Bytes.{Below}
 use Rattle.compress.specs.Block.{usedOf, initialOf}
 use Rattle.compress.specs.declared.Width.the-variants.{W160}
 use Rattle.ripemd.specs.Refusals.{Row, _when_}
-use Rattle.ripemd.specs.State.{WellFormed, faultOf, freshOf}
+use Rattle.ripemd.specs.State.{WellFormed, faultOf, answerOf, freshOf}
 use Rattle.ripemd.specs.declared.State.{State}
 use Rattle.ripemd.proofs.Well.{well, no-fault}
 use Rattle.ripemd.proofs.Zeros.{zeros-are}
@@ -22,19 +22,20 @@ use Rattle.shape.specs.Shape.{reach}
 use Rattle.sheet.specs.Sheet.{Shaped, Begins, sheetOf, lengthOf, writeNumber, writeBytes}
 use Rattle.sheet.specs.Reading.{sheetShape, isSheet, stateWith, stateIn, heldRows, readNumber, readOf}
 use Rattle.sheet.specs.declared.Readout.{Readout}
+use Rattle.sheet.proofs.Written.{length-is}
 use Rattle.sheet.proofs.Answers.{read-wrong}
 use Rattle.sheet.proofs.Places.{shaped-or-not, begins, longest}
 use Rattle.sheet.proofs.Again.{state-in, read-sheet, accepted-sheet}
-use Rattle.demands.specs.Numbers.{number, nothing, Other, Decides, no-row, one-row}
-use Rattle.demands.specs.Demand1.{equal-row, least-row, start-row, fault-row}
+use Rattle.demands.specs.Numbers.{number, nothing, Given, Other, Decides, no-row, one-row, given}
+use Rattle.demands.specs.Rows.{equal-row, least-row, start-row}
+use Rattle.demands.specs.Faults.{faults, Asked, fault-first}
 
--- ---- write: 6 for a state that isn't well formed, then 3 for an output of another length than the sheet's
+-- ---- write: the state's fault, then 3 for an output of another length than the sheet's
 pub write-numbers : (s : State) (o : List ℕ)
-    → number 6 (¬ WellFormed s) (number 3 (¬ (length o ≡ length (sheetOf s))) nothing) (Unit {0}) (writeNumber s (length o))
+    → Asked s (60 ∷ 61 ∷ 62 ∷ 63 ∷ 64 ∷ 3 ∷ 0 ∷ []) (faults s (number 3 (¬ (length o ≡ length (sheetOf s))) nothing)) (answerOf s (writeNumber s (length o)))
 unfolding writeNumber
 write-numbers s o =
-    fault-row s _ _ (λ e. omega arith, λ e. omega arith)
-    (equal-row 3 (length o) (length (sheetOf s)) [] nothing (λ e. omega arith) no-row)
+    fault-first s _ (omega arith, tt) _ (equal-row 3 (length o) (length (sheetOf s)) [] nothing (λ e. omega arith) no-row)
 
 pub write-done : (s : State) (o : List ℕ) → writeNumber s (length o) ≡ 0 → writeBytes s o ≡ sheetOf s
 unfolding writeBytes
@@ -48,7 +49,7 @@ write-refused s o n = refused (writeNumber s (length o)) (sheetOf s) o n
 pub length-needed : (s : State) → (WellFormed s → lengthOf s ≡ length (sheetOf s)) × ((¬ WellFormed s) → lengthOf s ≡ 0)
 unfolding lengthOf
 length-needed s = (
-  λ w. accepted (faultOf s) (length (sheetOf s)) 0 (no-fault s w),
+  λ w. length-is s (no-fault s w),
   λ n. refused (faultOf s) (length (sheetOf s)) 0 (λ e. n (well s e)),
 )
 
@@ -72,17 +73,18 @@ shape-row l rs rest = one-row 8 (not (isSheet l)) (¬ Shaped l) rs rest wrong ri
         (shaped-or-not l)
 
 pub read-numbers : (l : List ℕ)
-    → number 8 (¬ Shaped l)
+    → Given (8 ∷ 5 ∷ 7 ∷ 0 ∷ [])
+    (number 8 (¬ Shaped l)
     (number 5 (2 ^ 55 ≤ stateIn l .count .0)
-    (number 7 ((stateIn l .count .0 ≡ 0) × (¬ (stateIn l .words ≡ initialOf (stateIn l .width)))) nothing))
-    (Unit {0})
+    (number 7 ((stateIn l .count .0 ≡ 0) × (¬ (stateIn l .words ≡ initialOf (stateIn l .width)))) nothing)))
     (readOf l .number)
 unfolding readOf readNumber
 read-numbers l =
     let s = stateIn l in
+    given (
     shape-row l (heldRows s) _ (λ e. omega arith, (λ e. omega arith, λ e. omega arith))
     (least-row 5 (2 ^ 55) (s .count .0) _ _ (λ e. omega arith, λ e. omega arith)
-    (start-row 7 (s .width) (s .words) (s .count .0) [] nothing (λ e. omega arith) no-row)) .on (Unit {0}) tt
+    (start-row 7 (s .width) (s .words) (s .count .0) [] nothing (λ e. omega arith) no-row)))
 
 -- what those rows speak of: the state that a text of right shape is the sheet of
 pub read-state : (l : List ℕ) (k : Shaped l) → stateIn l ≡ stateWith (k .width) (k .count) (k .words) (k .tail)
@@ -95,7 +97,7 @@ pub read-place : (l : List ℕ) → readOf l .number ≡ 8
     × ((n : ℕ) → n ≤ length l → Begins (take n l) → n ≤ readOf l .place)
 read-place l e =
     ⊎-elim
-    (λ h. absurd (read-numbers l .0 .0 e .1 (h .0)))
+    (λ h. absurd (read-numbers l .exactly .0 .0 e .1 (h .0)))
     (λ h. let k = ltb-false (length l) (reach sheetShape l) (h .1) in
     rw (ap (λ (r : Readout). r .place) (read-wrong l (h .1))) (k, begins l k, longest l))
     (shaped-or-not l)

@@ -1,4 +1,4 @@
--- A call on a buffer that it takes whole, or on its first bytes, seen as one on its front. The call gives the number g for a length, and makes
+-- A call on a buffer that it takes whole, or on its first bytes, seen as one on its front. The call gives the answer g for a length, and makes
 -- f of the bytes.
 -- Assumes nothing.
 use mathlib.Core.Path.{_≡_, ap}
@@ -8,12 +8,12 @@ use lib.ListN.{length, take, drop, drop-of-length-le}
 use lib.Seq.{take-all}
 use Rattle.front.specs.Front.{atFront}
 
-module _ (g : ℕ → ℕ) (f : List ℕ → List ℕ) (n : ℕ) (o : List ℕ) {number : ℕ} {last : List ℕ} where
+module _ {A : Type 0} (g : ℕ → A) (f : List ℕ → List ℕ) (n : ℕ) (o : List ℕ) {answer : A} {last : List ℕ} where
   -- there is no room for n bytes
-  pub whole : length o ≤ n → (number ≡ g (length o)) × (last ≡ f o) → (number ≡ g (length (take n o))) × (last ≡ atFront n f o)
+  pub whole : length o ≤ n → (answer ≡ g (length o)) × (last ≡ f o) → (answer ≡ g (length (take n o))) × (last ≡ atFront n f o)
   whole h e = rw (take-all n o h, drop-of-length-le o h, append-nil (f o)) e
 
   -- there is
-  pub part : (m : ℕ) → n ≡ m → (number ≡ g (length (take m o))) × (last ≡ f (take m o))
-      → (number ≡ g (length (take n o))) × (last ++ drop m o ≡ atFront n f o)
+  pub part : (m : ℕ) → n ≡ m → (answer ≡ g (length (take m o))) × (last ≡ f (take m o))
+      → (answer ≡ g (length (take n o))) × (last ++ drop m o ≡ atFront n f o)
   part m same e = rw same (e .0, ap (λ (l : List ℕ). l ++ drop m o) (e .1))

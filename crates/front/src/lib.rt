@@ -3,11 +3,13 @@
 ghost use mathlib.Core.Path.{_≡_};
 ghost use Prim.Native.Nat.{_≤_};
 ghost use lib.ListN.{length, take};
+ghost use Rattle.ripemd.specs.State.{answerOf};
 ghost use Rattle.ripemd.specs.Digest.{digestLength};
 ghost use Rattle.ripemd.specs.Finish.{finishNumber, finishBytes};
 ghost use Rattle.ripemd.specs.Record.{recordLength, exportNumber, exportBytes};
 ghost use Rattle.sheet.specs.Sheet.{lengthOf, writeNumber, writeBytes};
 ghost use Rattle.front.specs.Front.{atFront};
+use ripemd::Answer;
 use ripemd::State;
 use ripemd::Width;
 
@@ -24,8 +26,8 @@ pub fn record_length(w: Width) -> usize
 }
 
 // A buffer without room is lent whole, so that the library refuses it.
-pub fn finish(s: State, out: &mut [u8]) -> u32
-    ensures { λ r. ⌜ (r ≡ finishNumber s (length (take (digestLength (s .width)) (now (out .entry))))) × (now (out .exit) ≡ atFront (digestLength (s .width)) (finishBytes s) (now (out .entry))) ⌝ }
+pub fn finish(s: State, out: &mut [u8]) -> Answer
+    ensures { λ r. ⌜ (r ≡ answerOf s (finishNumber s (length (take (digestLength (s .width)) (now (out .entry)))))) × (now (out .exit) ≡ atFront (digestLength (s .width)) (finishBytes s) (now (out .entry))) ⌝ }
 {
     let w = s.width;
     let n = digest_length(w);
@@ -35,8 +37,8 @@ pub fn finish(s: State, out: &mut [u8]) -> u32
     ripemd::finish(s, &mut out[0..n])
 }
 
-pub fn export(s: State, out: &mut [u8]) -> u32
-    ensures { λ r. ⌜ (r ≡ exportNumber s (length (take (recordLength (s .width)) (now (out .entry))))) × (now (out .exit) ≡ atFront (recordLength (s .width)) (exportBytes s) (now (out .entry))) ⌝ }
+pub fn export(s: State, out: &mut [u8]) -> Answer
+    ensures { λ r. ⌜ (r ≡ answerOf s (exportNumber s (length (take (recordLength (s .width)) (now (out .entry)))))) × (now (out .exit) ≡ atFront (recordLength (s .width)) (exportBytes s) (now (out .entry))) ⌝ }
 {
     let w = s.width;
     let n = record_length(w);
@@ -46,8 +48,8 @@ pub fn export(s: State, out: &mut [u8]) -> u32
     ripemd::export(s, &mut out[0..n])
 }
 
-pub fn write(s: State, out: &mut [u8]) -> u32
-    ensures { λ r. ⌜ (r ≡ writeNumber s (length (take (lengthOf s) (now (out .entry))))) × (now (out .exit) ≡ atFront (lengthOf s) (writeBytes s) (now (out .entry))) ⌝ }
+pub fn write(s: State, out: &mut [u8]) -> Answer
+    ensures { λ r. ⌜ (r ≡ answerOf s (writeNumber s (length (take (lengthOf s) (now (out .entry)))))) × (now (out .exit) ≡ atFront (lengthOf s) (writeBytes s) (now (out .entry))) ⌝ }
 {
     let n = sheet::sheet_length(s);
     if out.len() < n {

@@ -1,16 +1,20 @@
 // Feeding a state where it lies, as `&mut self` does in the Rust. It is the by-value feed, and is proved to match it.
 ghost use mathlib.Core.Path.{_≡_};
-ghost use Rattle.ripemd.specs.Feed.{feedOf};
+ghost use Rattle.ripemd.specs.Feed.{feedOf, answered};
+use ripemd::Answer;
 use ripemd::Fed;
 use ripemd::State;
 
-// The number, and the state changed where it lies; a refused piece leaves it as it was.
-pub fn feed_lent(s: &mut State, piece: &[u8]) -> u32
-    ensures { λ r. ⌜ (r ≡ feedOf (now (s .entry)) (now (piece .entry)) .number) × (now (s .exit) ≡ feedOf (now (s .entry)) (now (piece .entry)) .state) ⌝ }
+// Number and index, and the state changed where it lies; a refused piece leaves it as it was.
+pub fn feed_lent(s: &mut State, piece: &[u8]) -> Answer
+    ensures { λ r. ⌜ (r ≡ answered (feedOf (now (s .entry)) (now (piece .entry)))) × (now (s .exit) ≡ feedOf (now (s .entry)) (now (piece .entry)) .state) ⌝ }
 {
     let f = ripemd::feed(*s, piece);
     *s = f.state;
-    f.number
+    Answer {
+        number: f.number,
+        index: f.index,
+    }
 }
 
 // A state of one's own is lent: for callers that have no reference to a state, so that their proofs walk none.
@@ -18,9 +22,10 @@ pub fn feed_own(s: State, piece: &[u8]) -> Fed
     ensures { λ r. ⌜ r ≡ feedOf s (now (piece .entry)) ⌝ }
 {
     let mut t = s;
-    let number = feed_lent(&mut t, piece);
+    let a = feed_lent(&mut t, piece);
     Fed {
-        number: number,
+        number: a.number,
         state: t,
+        index: a.index,
     }
 }

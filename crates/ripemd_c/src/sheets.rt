@@ -17,7 +17,8 @@ pub extern "C" fn ripemd_sheet_length(state: &[u8; 128]) -> u64
 pub extern "C" fn ripemd_write_sheet(state: &[u8; 128], out: &mut [u8]) -> u32
     ensures { λ r. ⌜ (r ≡ writeNumber (stateOf (now (state .entry))) (length (now (out .entry)))) × (now (out .exit) ≡ writeBytes (stateOf (now (state .entry))) (now (out .entry))) ⌝ }
 {
-    sheet::write(images::state(state), out)
+    let a = sheet::write(images::state(state), out);
+    a.number
 }
 
 #[no_mangle]

@@ -2,7 +2,7 @@
 -- Assumes nothing.
 use Prim.Native.Nat.{ℕ, _^_, _≤_, max}
 use mathlib.Core.Path.{_≡_, refl, ap, sym, _∙_}
-use mathlib.Core.Bool.{Bool, true, false, cond, true≢false}
+use mathlib.Core.Bool.{Bool, true, false, cond}
 use mathlib.Core.List.{List}
 use native.Mathlib.Omega.{arith}
 use borrow.Author.Tests.{ne-eqb, ltb-true, ltb-false, lt-leb}
@@ -11,7 +11,6 @@ use Rattle.compress.specs.declared.Width.{Width}
 use Rattle.compress.specs.declared.Width.the-variants.{W128, W160, W256, W320}
 use Rattle.ripemd.specs.State.{wrongStart, faultOf}
 use Rattle.ripemd.specs.declared.State.{State}
-use Rattle.ripemd.proofs.Starts.{start-past}
 use Rattle.shape.specs.Shape.{reach}
 use Rattle.shape.proofs.Reach.{Right}
 use Rattle.sheet.specs.declared.Far.{Far}
@@ -28,44 +27,38 @@ held-not-8 s = by-test (leb (2 ^ 55) (s .count .0)) (wrongStart (s .width) (s .w
 
 -- ---- the number of a state that a sheet holds, by what is wrong with it
 module _ (s : State) (k : Plain s) where
-  fault-is : faultOf s ≡ cond (leb (2 ^ 55) (s .count .0)) 6 (cond (wrongStart (s .width) (s .words) (s .count .0)) 6 0)
+  fault-is : faultOf s ≡ cond (leb (2 ^ 55) (s .count .0)) 61 (cond (wrongStart (s .width) (s .words) (s .count .0)) 64 0)
   unfolding faultOf
   fault-is = rw (lt-leb 64 (s .fill) (k .0), k .1, k .2)
 
-  pub held-right : faultOf s ≡ 0 → heldNumber s ≡ 0
+  pub held-count : faultOf s ≡ 61 → heldNumber s ≡ 5
   unfolding heldNumber
-  held-right e = by-test (leb (2 ^ 55) (s .count .0)) (wrongStart (s .width) (s .words) (s .count .0)) (sym fault-is ∙ e)
+  held-count e = by-test (leb (2 ^ 55) (s .count .0)) (wrongStart (s .width) (s .words) (s .count .0)) (sym fault-is ∙ e)
     where
-      by-test : (a b : Bool) → _≡_ {A = ℕ} (cond a 6 (cond b 6 0)) 0 → _≡_ {A = ℕ} (cond a 5 (cond b 7 0)) 0
-      by-test true b e = absurd (omega arith)
+      by-test : (a b : Bool) → _≡_ {A = ℕ} (cond a 61 (cond b 64 0)) 61 → _≡_ {A = ℕ} (cond a 5 (cond b 7 0)) 5
+      by-test true b e = refl
       by-test false true e = absurd (omega arith)
-      by-test false false e = refl
+      by-test false false e = absurd (omega arith)
 
-  -- with a block counted
-  pub held-count : (faultOf s ≡ 0 → ⊥) → (s .count .0 ≡ 0 → ⊥) → heldNumber s ≡ 5
+  pub held-start : faultOf s ≡ 64 → heldNumber s ≡ 7
   unfolding heldNumber
-  held-count n z =
-      by-test (leb (2 ^ 55) (s .count .0)) (wrongStart (s .width) (s .words) (s .count .0))
-      (start-past (s .width) (s .words) (s .count .0) z)
-      (λ e. n (fault-is ∙ e))
+  held-start e = by-test (leb (2 ^ 55) (s .count .0)) (wrongStart (s .width) (s .words) (s .count .0)) (sym fault-is ∙ e)
     where
-      by-test : (a b : Bool) → b ≡ false → (_≡_ {A = ℕ} (cond a 6 (cond b 6 0)) 0 → ⊥) → _≡_ {A = ℕ} (cond a 5 (cond b 7 0)) 5
-      by-test true b q n = refl
-      by-test false true q n = absurd (true≢false q)
-      by-test false false q n = absurd (n refl)
+      by-test : (a b : Bool) → _≡_ {A = ℕ} (cond a 61 (cond b 64 0)) 64 → _≡_ {A = ℕ} (cond a 5 (cond b 7 0)) 7
+      by-test true b e = absurd (omega arith)
+      by-test false true e = refl
+      by-test false false e = absurd (omega arith)
 
-  -- with none
-  pub held-start : (faultOf s ≡ 0 → ⊥) → s .count .0 ≡ 0 → heldNumber s ≡ 7
+  pub held-right : (faultOf s ≡ 61 → ⊥) → (faultOf s ≡ 64 → ⊥) → heldNumber s ≡ 0
   unfolding heldNumber
-  held-start n z =
-      by-test (leb (2 ^ 55) (s .count .0)) (wrongStart (s .width) (s .words) (s .count .0))
-      (lt-leb (2 ^ 55) (s .count .0) (omega arith))
-      (λ e. n (fault-is ∙ e))
+  held-right m n =
+      by-test (leb (2 ^ 55) (s .count .0)) (wrongStart (s .width) (s .words) (s .count .0)) (λ e. m (fault-is ∙ e)) (λ e. n (fault-is ∙ e))
     where
-      by-test : (a b : Bool) → a ≡ false → (_≡_ {A = ℕ} (cond a 6 (cond b 6 0)) 0 → ⊥) → _≡_ {A = ℕ} (cond a 5 (cond b 7 0)) 7
-      by-test true b q n = absurd (true≢false q)
-      by-test false true q n = refl
-      by-test false false q n = absurd (n refl)
+      by-test : (a b : Bool) → (_≡_ {A = ℕ} (cond a 61 (cond b 64 0)) 61 → ⊥) → (_≡_ {A = ℕ} (cond a 61 (cond b 64 0)) 64 → ⊥)
+          → _≡_ {A = ℕ} (cond a 5 (cond b 7 0)) 0
+      by-test true b m n = absurd (m refl)
+      by-test false true m n = absurd (n refl)
+      by-test false false m n = refl
 
 module _ (l : List ℕ) where
   pub read-right : isSheet l ≡ true → readOf l ≡ held (stateIn l)

@@ -2,6 +2,7 @@ pub mod Lines
 pub mod Followed
 pub mod Apart
 pub mod Together
+pub mod Written
 pub mod Answers
 pub mod States
 pub mod Places

@@ -35,20 +35,18 @@ fn state_at(s: &[u8], w: Width) -> State
     }
 }
 
-// What is wrong with a state that a sheet holds. Its fill, tail and spare words are right, so that a fault is of the count, or else of the start,
-// where no block is counted.
+// What is wrong with a state that a sheet holds. Its fill, tail and spare words are right, so that a fault is of the count, 61, or of the start, 64.
 fn held_number(s: State) -> u32
     requires { ⌜ Plain s ⌝ }
     ensures { λ r. ⌜ r ≡ heldNumber s ⌝ }
 {
-    if ripemd::fault(s) == 0 {
-        return 0;
+    let f = ripemd::fault(s);
+    let number = f.number;
+    match number {
+        61 => 5,
+        64 => 7,
+        _ => 0,
     }
-    let count = s.count;
-    if count.0 != 0 {
-        return 5;
-    }
-    7
 }
 
 fn refused(number: u32, place: usize) -> Readout

@@ -2,10 +2,11 @@
 ghost use mathlib.Core.Path.{_≡_};
 ghost use Prim.Native.Nat.{_≤_};
 ghost use lib.ListN.{length};
-ghost use Rattle.ripemd.specs.State.{faultOf};
+ghost use Rattle.ripemd.specs.State.{faultOf, answerOf};
 ghost use Rattle.text.specs.Text.{decimalOf};
 ghost use Rattle.sheet.specs.Sheet.{textOf, sheetOf, lengthOf, writeNumber, writeBytes};
 use crate::reaching;
+use ripemd::Answer;
 use ripemd::State;
 use ripemd::Width;
 
@@ -17,19 +18,28 @@ fn decimal_length(x: u64) -> usize
     text::decimal(&mut room, 0, x)
 }
 
-// How long the sheet of s is; 0 where s isn't well formed.
-pub fn sheet_length(s: State) -> usize
-    ensures { λ r. ⌜ r ≡ lengthOf s ⌝ }
+// How long the sheet of s is.
+fn length_of(s: State) -> usize
+    requires { ⌜ faultOf s ≡ 0 ⌝ }
+    ensures { λ r. ⌜ r ≡ length (sheetOf s) ⌝ }
 {
-    if ripemd::fault(s) != 0 {
-        return 0;
-    }
     let width = s.width;
     let used = compress::used(width);
     let count = s.count;
     let digits = decimal_length(count.0);
     let fill = s.fill;
     17 + digits + 7 + 8 * used + 6 + 2 * fill + 1
+}
+
+// The same; 0 where s isn't well formed.
+pub fn sheet_length(s: State) -> usize
+    ensures { λ r. ⌜ r ≡ lengthOf s ⌝ }
+{
+    let f = ripemd::fault(s);
+    if f.number != 0 {
+        return 0;
+    }
+    length_of(s)
 }
 
 // The lines of a sheet, into out, which they fill.
@@ -65,17 +75,23 @@ fn put_sheet(s: State, out: &mut [u8])
 }
 
 // The sheet of s, into an output of exactly its length.
-pub fn write(s: State, out: &mut [u8]) -> u32
-    ensures { λ r. ⌜ (r ≡ writeNumber s (length (now (out .entry)))) × (now (out .exit) ≡ writeBytes s (now (out .entry))) ⌝ }
+pub fn write(s: State, out: &mut [u8]) -> Answer
+    ensures { λ r. ⌜ (r ≡ answerOf s (writeNumber s (length (now (out .entry))))) × (now (out .exit) ≡ writeBytes s (now (out .entry))) ⌝ }
 {
     let f = ripemd::fault(s);
-    if f != 0 {
+    if f.number != 0 {
         return f;
     }
-    let n = sheet_length(s);
+    let n = length_of(s);
     if out.len() != n {
-        return 3;
+        return Answer {
+            number: 3,
+            index: 0,
+        };
     }
     put_sheet(s, out);
-    0
+    Answer {
+        number: 0,
+        index: 0,
+    }
 }

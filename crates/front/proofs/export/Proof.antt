@@ -1,7 +1,8 @@
 -- `front::export` meets its contract.
 -- Assumes nothing.
-use Prim.Native.Nat.{_-_}
+use Prim.Native.Nat.{ℕ, _-_}
 use native.Mathlib.Omega.{arith}
+use Rattle.ripemd.specs.State.{answerOf}
 use Rattle.ripemd.specs.Record.{recordLength, exportNumber, exportBytes}
 use Rattle.front.proofs.Fronts.{whole, part}
 use borrow.Author.Needs.{needs}
@@ -21,7 +22,7 @@ returns : tie.Need-returns
 returns c =
     let t = c .before .before .before .before in
     let a = t .before .before .before .args in
-    whole (exportNumber (a .s)) (exportBytes (a .s)) (recordLength (a .s .width)) (a .out .now)
+    whole (λ (k : ℕ). answerOf (a .s) (exportNumber (a .s) k)) (exportBytes (a .s)) (recordLength (a .s .width)) (a .out .now)
     (omega (arith, t .if1 .taken, t .before .record-length .ensures .0))
     (c .before .before .export .ensures)
 
@@ -44,7 +45,7 @@ returns-2 : tie.Need-returns-2
 returns-2 c =
     let t = c .before .before .before .before .before in
     let a = t .before .before .args in
-    part (exportNumber (a .s)) (exportBytes (a .s)) (recordLength (a .s .width)) (a .out .now)
+    part (λ (k : ℕ). answerOf (a .s) (exportNumber (a .s) k)) (exportBytes (a .s)) (recordLength (a .s .width)) (a .out .now)
     (t .record-length .result - 0)
     (omega (arith, t .record-length .ensures .0))
     (c .before .before .export2 .ensures)

@@ -1,7 +1,8 @@
 -- `front::finish` meets its contract.
 -- Assumes nothing.
-use Prim.Native.Nat.{_-_}
+use Prim.Native.Nat.{ℕ, _-_}
 use native.Mathlib.Omega.{arith}
+use Rattle.ripemd.specs.State.{answerOf}
 use Rattle.ripemd.specs.Digest.{digestLength}
 use Rattle.ripemd.specs.Finish.{finishNumber, finishBytes}
 use Rattle.front.proofs.Fronts.{whole, part}
@@ -22,7 +23,7 @@ returns : tie.Need-returns
 returns c =
     let t = c .before .before .before .before in
     let a = t .before .before .before .args in
-    whole (finishNumber (a .s)) (finishBytes (a .s)) (digestLength (a .s .width)) (a .out .now)
+    whole (λ (k : ℕ). answerOf (a .s) (finishNumber (a .s) k)) (finishBytes (a .s)) (digestLength (a .s .width)) (a .out .now)
     (omega (arith, t .if1 .taken, t .before .digest-length .ensures .0))
     (c .before .before .finish .ensures)
 
@@ -45,7 +46,7 @@ returns-2 : tie.Need-returns-2
 returns-2 c =
     let t = c .before .before .before .before .before in
     let a = t .before .before .args in
-    part (finishNumber (a .s)) (finishBytes (a .s)) (digestLength (a .s .width)) (a .out .now)
+    part (λ (k : ℕ). answerOf (a .s) (finishNumber (a .s) k)) (finishBytes (a .s)) (digestLength (a .s .width)) (a .out .now)
     (t .digest-length .result - 0)
     (omega (arith, t .digest-length .ensures .0))
     (c .before .before .finish2 .ensures)

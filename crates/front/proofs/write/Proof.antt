@@ -1,7 +1,8 @@
 -- `front::write` meets its contract.
 -- Assumes nothing.
-use Prim.Native.Nat.{_-_}
+use Prim.Native.Nat.{ℕ, _-_}
 use native.Mathlib.Omega.{arith}
+use Rattle.ripemd.specs.State.{answerOf}
 use Rattle.sheet.specs.Sheet.{lengthOf, writeNumber, writeBytes}
 use Rattle.front.proofs.Fronts.{whole, part}
 use borrow.Author.Needs.{needs}
@@ -21,7 +22,7 @@ returns : tie.Need-returns
 returns c =
     let t = c .before .before .before .before in
     let a = t .before .before .before .args in
-    whole (writeNumber (a .s)) (writeBytes (a .s)) (lengthOf (a .s)) (a .out .now)
+    whole (λ (k : ℕ). answerOf (a .s) (writeNumber (a .s) k)) (writeBytes (a .s)) (lengthOf (a .s)) (a .out .now)
     (omega (arith, t .if1 .taken, t .before .sheet-length .ensures))
     (c .before .before .write .ensures)
 
@@ -44,7 +45,7 @@ returns-2 : tie.Need-returns-2
 returns-2 c =
     let t = c .before .before .before .before .before in
     let a = t .before .before .args in
-    part (writeNumber (a .s)) (writeBytes (a .s)) (lengthOf (a .s)) (a .out .now)
+    part (λ (k : ℕ). answerOf (a .s) (writeNumber (a .s) k)) (writeBytes (a .s)) (lengthOf (a .s)) (a .out .now)
     (t .sheet-length .result - 0)
     (omega (arith, t .sheet-length .ensures))
     (c .before .before .write2 .ensures)

@@ -3,6 +3,7 @@
 use borrow.Author.Needs.{needs}
 use mathlib.Core.Path.{ap, _∙_}
 use lib.ListN.{length}
+use Rattle.ripemd.specs.declared.Answer.{Answer}
 use Rattle.ripemd.specs.declared.State.{State}
 use Rattle.sheet.specs.Sheet.{writeNumber, writeBytes}
 use Rattle.ripemd_c.proofs.sheets.ripemd_write_sheet.Statement.{statement}
@@ -20,7 +21,7 @@ same-length c = search needs
 returns : tie.Need-returns
 returns c =
     let o = c .before .before .before .before .before .before .args .out .now in (
-      c .before .before .write .ensures .0 ∙ ap (λ (s : State). writeNumber s (length o)) (c .before .before .before .before .state .ensures),
+      ap (λ (a : Answer). a .number) (c .before .before .write .ensures .0) ∙ ap (λ (s : State). writeNumber s (length o)) (c .before .before .before .before .state .ensures),
       c .before .before .write .ensures .1 ∙ ap (λ (s : State). writeBytes s o) (c .before .before .before .before .state .ensures),
     )
 

@@ -1,6 +1,8 @@
 -- `sheet::reading::held_number` meets its contract.
 -- Assumes nothing.
-use mathlib.Core.Path.{sym, _∙_}
+use mathlib.Core.Path.{_≡_, ap, sym, _∙_}
+use Rattle.ripemd.specs.State.{faultOf}
+use Rattle.ripemd.specs.declared.Answer.{Answer}
 use Rattle.sheet.proofs.Answers.{held-right, held-count, held-start}
 use borrow.Author.Needs.{needs}
 use Rattle.sheet.proofs.reading.held_number.Statement.{statement}
@@ -9,22 +11,24 @@ use Rattle.sheet.proofs.reading.held_number.Tie as tie
 fault-requires : tie.Need-fault-requires
 fault-requires c κs = search needs
 
+found : (c : tie.After-fault) → c .fault .result .number ≡ faultOf (c .before .args .s)
+found c = ap (λ (a : Answer). a .number) (c .fault .ensures)
+
 returns : tie.Need-returns
 returns c =
     let o = c .before .before in
-    sym (held-right (o .args .s) (o .pre) (sym (c .before .fault .ensures) ∙ c .if1 .taken))
+    sym (held-count (o .args .s) (o .pre) (sym (found (c .before)) ∙ c .match .keys1))
 
 returns-2 : tie.Need-returns-2
 returns-2 c =
-    let fault = c .before .before .before .before in
-    let o = fault .before in
-    sym (held-count (o .args .s) (o .pre) (λ e. c .before .before .before .if1 .left (fault .fault .ensures ∙ e)) (c .if2 .taken))
+    let o = c .before .before in
+    sym (held-start (o .args .s) (o .pre) (sym (found (c .before)) ∙ c .match .keys2))
 
 returns-3 : tie.Need-returns-3
 returns-3 c =
-    let fault = c .before .before .before .before in
-    let o = fault .before in
-    sym (held-start (o .args .s) (o .pre) (λ e. c .before .before .before .if1 .left (fault .fault .ensures ∙ e)) (c .if2 .left))
+    let o = c .before .before in
+    let f = found (c .before) in
+    sym (held-right (o .args .s) (o .pre) (λ e. c .match .rest .0 .1 (f ∙ e)) (λ e. c .match .rest .1 (f ∙ e)))
 
 pub held-number-spec : {M : Type 1} → statement M
 held-number-spec = tie.close (tie.spec fault-requires returns returns-2 returns-3)
