@@ -67,6 +67,7 @@ impl<'a> Input<'a> {
 pub enum Call<'a> {
     Fresh(Width),
     Reset,
+    Fault,
     Feed(Input<'a>),
     Finish(usize),
     Export(usize),
@@ -98,18 +99,18 @@ impl<'a> Call<'a> {
         (0..self.output_length()).map(|at| 0xa5 ^ at as u8).collect()
     }
 
-    /// The value's memory as it is before the call, unlike any length or place; 0 where the call gives
-    /// no value.
+    /// The value's memory as it is before the call, unlike any length, place or index; 0 where the call
+    /// gives no value.
     pub fn value(&self) -> u64 {
         match self {
-            Call::SheetLength | Call::ReadSheet(_) => 0xa5a5_a5a5_a5a5_a5a5,
+            Call::Fault | Call::SheetLength | Call::ReadSheet(_) => 0xa5a5_a5a5_a5a5_a5a5,
             _ => 0,
         }
     }
 
     pub fn lends_an_empty_slice(&self) -> bool {
         match *self {
-            Call::Fresh(_) | Call::Reset | Call::SheetLength => false,
+            Call::Fresh(_) | Call::Reset | Call::Fault | Call::SheetLength => false,
             Call::Feed(piece) => piece.length() == 0,
             Call::Finish(length) | Call::Export(length) | Call::WriteSheet(length) => length == 0,
             Call::Import(_, lent) | Call::ReadSheet(lent) => lent.is_empty(),
@@ -124,6 +125,7 @@ impl fmt::Display for Call<'_> {
         match self {
             Call::Fresh(width) => write!(f, "fresh{}", width.bits())?,
             Call::Reset => write!(f, "reset")?,
+            Call::Fault => write!(f, "fault")?,
             Call::Feed(_) => write!(f, "feed")?,
             Call::Finish(length) => write!(f, "finish into {length} bytes")?,
             Call::Export(length) => write!(f, "export into {length} bytes")?,
@@ -152,7 +154,8 @@ pub struct Answer {
     pub number: u32,
     pub image: Image,
     pub output: Vec<u8>,
-    /// What sheet_length gives, or the place that read_sheet writes; 0 for every other call.
+    /// What sheet_length gives, the place that read_sheet writes, or the index that fault writes; 0 for
+    /// every other call.
     pub value: u64,
     /// Whether a byte beside the lent ones, or one lent to be read, was changed.
     pub spilt: bool,

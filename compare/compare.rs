@@ -8,6 +8,7 @@ mod c160;
 mod c256;
 mod c320;
 mod call;
+mod faults;
 mod group;
 mod library;
 mod messages;
@@ -34,8 +35,8 @@ const GROUPS: [fn(Width) -> Group; 19] = [
     refusals::no_blocks,
     refusals::damaged_records,
     refusals::wrong_lengths,
-    refusals::ill_formed,
     refusals::flipped_images,
+    faults::told,
     sheets::after_every_byte,
     sheets::counts_and_fills,
     sheets::no_blocks,

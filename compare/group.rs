@@ -2,6 +2,7 @@
 
 use crate::call::{hex, Answer, Call, Image, Input, Width};
 use crate::{library, model};
+use std::collections::BTreeMap;
 
 #[derive(Default)]
 pub struct Group {
@@ -10,8 +11,8 @@ pub struct Group {
     cases: u64,
     different: u64,
     case_differs: bool,
-    /// How often each number from 0 to 8 was the right answer.
-    pub numbers: [u64; 9],
+    /// How often each number was the right answer.
+    pub numbers: BTreeMap<u32, u64>,
     /// How many sheets were written and read; what had to be refused is not counted.
     pub sheets_written: u64,
     pub sheets_read: u64,
@@ -28,16 +29,19 @@ impl Group {
         self.case_differs = false;
     }
 
-    /// Compares one call on both sides. The case goes on from the model's answer.
+    /// Compares one call on both sides; where it gives a fault, the library must tell the same one of the
+    /// state that the call left. The case goes on from the model's answer.
     pub fn call(&mut self, image: &mut Image, call: Call) -> Answer {
         let right = model::answer(image, &call);
         for empty in library::empty_pointers(&call) {
             let given = library::answer(image, &call, empty);
             self.calls += 1;
-            self.numbers[right.number as usize] += 1;
-            if given != right {
-                let state = hex(image);
-                self.differs(&format!("{call}, state {state}"), &given.to_string(), &right.to_string());
+            *self.numbers.entry(right.number).or_default() += 1;
+            self.answers(image, &call, &given, &right);
+            if given.number >= 60 {
+                let told = library::answer(&given.image, &Call::Fault, empty);
+                let right = Answer { number: given.number, ..model::answer(&given.image, &Call::Fault) };
+                self.answers(&given.image, &Call::Fault, &told, &right);
             }
         }
         match (call, right.number) {
@@ -47,6 +51,13 @@ impl Group {
         }
         *image = right.image;
         right
+    }
+
+    fn answers(&mut self, image: &Image, call: &Call, given: &Answer, right: &Answer) {
+        if given != right {
+            let state = hex(image);
+            self.differs(&format!("{call}, state {state}"), &given.to_string(), &right.to_string());
+        }
     }
 
     /// Compares what a call gave with what is known from elsewhere.
@@ -78,7 +89,7 @@ impl Group {
     pub fn end(&self) -> bool {
         let equal = self.cases - self.different;
         print!("{}: {equal} of {} equal ({} calls; numbers", self.name, self.cases, self.calls);
-        for (number, times) in self.numbers.iter().enumerate().filter(|(_, times)| **times > 0) {
+        for (number, times) in &self.numbers {
             print!(" {number}:{times}");
         }
         if self.sheets_written + self.sheets_read > 0 {
@@ -125,9 +136,10 @@ impl Group {
         answer
     }
 
-    /// Every call that a state can refuse, each on the state as given, and reset.
+    /// Every call that a state can refuse, each on the state as given, with fault and reset.
     pub fn every_call(&mut self, image: &Image) {
         let width = model::State::read(image).width;
+        self.call(&mut image.clone(), Call::Fault);
         for length in [0, 5, 64, 200] {
             self.feed(&mut image.clone(), &[0x77; 200][..length]);
         }

@@ -46,6 +46,7 @@ static void sheet(const ripemd_state *state) {
 
 static void hash(const struct width *w) {
     ripemd_state state;
+    uint64_t index = 1;
     uint8_t digest[RIPEMD_320_DIGEST_LENGTH] = {0}, whole[RIPEMD_320_DIGEST_LENGTH] = {0}, record[RIPEMD_320_RECORD_LENGTH];
     at = w->name;
     w->fresh(&state);
@@ -58,6 +59,8 @@ static void hash(const struct width *w) {
     check("digest", memcmp(digest, w->abc, sizeof w->abc) == 0);
     check("one_shot", w->one_shot((const uint8_t *)"abc", 3, whole, w->digest) == RIPEMD_DONE);
     check("digest at once", memcmp(digest, whole, sizeof digest) == 0);
+    check("fault", ripemd_fault(&state, &index) == RIPEMD_DONE);
+    check("index of no fault", index == 0);
     sheet(&state);
 }
 
@@ -77,11 +80,31 @@ static void refusals(void) {
     check("mid-block", ripemd_export(&state, record, sizeof record) == RIPEMD_MID_BLOCK);
     check("output length", ripemd_finish(&state, NULL, 0) == RIPEMD_OUTPUT_LENGTH);
     state.image[16] = 64;
-    check("ill-formed", ripemd_feed(&state, block, 1) == RIPEMD_ILL_FORMED);
+    check("feed of a fault", ripemd_feed(&state, block, sizeof block) == RIPEMD_FILL);
+    check("digest of a fault", ripemd_finish(&state, NULL, 0) == RIPEMD_FILL);
+    check("record of a fault", ripemd_export(&state, NULL, 0) == RIPEMD_FILL);
     check("length of no sheet", ripemd_sheet_length(&state) == 0);
-    check("ill-formed sheet", ripemd_write_sheet(&state, block, 0) == RIPEMD_ILL_FORMED);
+    check("sheet of a fault", ripemd_write_sheet(&state, NULL, 0) == RIPEMD_FILL);
     ripemd_reset(&state);
     check("reset", ripemd_feed(&state, block, 1) == RIPEMD_DONE);
+}
+
+/* Whether a fresh 160, one byte of its image overwritten, has this fault, and feed gives its number. */
+static int has(size_t byte, uint8_t value, uint32_t number, uint64_t index) {
+    ripemd_state state;
+    uint64_t given = 1;
+    ripemd_fresh160(&state);
+    state.image[byte] = value;
+    return ripemd_fault(&state, &given) == number && given == index && ripemd_feed(&state, NULL, 0) == number;
+}
+
+static void faults(void) {
+    check("no fault", has(7, 1, RIPEMD_DONE, 0));
+    check("fault of the fill", has(16, 64, RIPEMD_FILL, 0));
+    check("fault of the count", has(14, 0x80, RIPEMD_COUNT, 0));
+    check("fault of the tail", has(64 + 40, 1, RIPEMD_TAIL, 40));
+    check("fault of a spare word", has(24 + 4 * 9, 1, RIPEMD_SPARE_WORD, 9));
+    check("fault of the start", has(24, 0, RIPEMD_START, 0));
 }
 
 /* Whether the sheet of a fresh 160, its beginning overwritten, gives this number and place, and the state of a fresh 160. */
@@ -123,6 +146,7 @@ int main(void) {
     for (size_t i = 0; i < sizeof widths / sizeof widths[0]; i++) hash(&widths[i]);
     at = "";
     refusals();
+    faults();
     sheets();
 #ifdef __cplusplus
     printf("header from C++: %d of %d equal\n", done - failed, done);

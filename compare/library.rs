@@ -13,6 +13,7 @@ extern "C" {
     fn ripemd_fresh256(state: *mut u8);
     fn ripemd_fresh320(state: *mut u8);
     fn ripemd_reset(state: *mut u8);
+    fn ripemd_fault(state: *const u8, index: *mut u64) -> u32;
     fn ripemd_feed(state: *mut u8, piece: *const u8, n: usize) -> u32;
     fn ripemd_finish(state: *const u8, output: *mut u8, n: usize) -> u32;
     fn ripemd_export(state: *const u8, output: *mut u8, n: usize) -> u32;
@@ -116,6 +117,7 @@ unsafe fn raw(call: &Call, state: *mut u8, from: *const u8, to: *mut u8, n: usiz
             ripemd_reset(state);
             0
         }
+        Call::Fault => ripemd_fault(state, value),
         Call::Feed(_) => ripemd_feed(state, from, m),
         Call::Finish(_) => ripemd_finish(state, to, n),
         Call::Export(_) => ripemd_export(state, to, n),

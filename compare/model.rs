@@ -75,12 +75,19 @@ impl State {
         image
     }
 
-    pub fn well_formed(&self) -> bool {
-        self.fill < 64
-            && self.count < BLOCKS
-            && self.tail[self.fill as usize..].iter().all(|byte| *byte == 0)
-            && self.words[self.width.words()..].iter().all(|word| *word == 0)
-            && self.begins()
+    /// Number and index of what is wrong: the least pair of all that hold, or zeros where none does.
+    pub fn fault(&self) -> (u32, u64) {
+        let tail = (0..64).map(|at| (62, at, at >= self.fill && self.tail[at as usize] != 0));
+        let spare = (self.width.words()..10).map(|at| (63, at as u64, self.words[at] != 0));
+        let others = [(60, 0, self.fill >= 64), (61, 0, self.count >= BLOCKS), (64, 0, !self.begins())];
+        let hold = tail.chain(spare).chain(others).filter(|(_, _, holds)| *holds);
+        hold.map(|(number, index, _)| (number, index)).min().unwrap_or((0, 0))
+    }
+
+    /// The fault as the first condition of a call.
+    fn at_fault(&self) -> (bool, u32) {
+        let (number, _) = self.fault();
+        (number != 0, number)
     }
 
     /// Without a block taken, the words are those of an empty message.
@@ -166,7 +173,7 @@ fn first(conditions: &[(bool, u32)]) -> u32 {
 
 fn feed(image: &mut Image, length: usize, piece: &[u8]) -> u32 {
     let mut state = State::read(image);
-    let number = first(&[(!state.well_formed(), 6), (state.bytes_taken() + length as u128 >= BYTES, 1)]);
+    let number = first(&[state.at_fault(), (state.bytes_taken() + length as u128 >= BYTES, 1)]);
     if number == 0 {
         piece.iter().for_each(|byte| state.take(*byte));
         *image = state.image();
@@ -176,7 +183,7 @@ fn feed(image: &mut Image, length: usize, piece: &[u8]) -> u32 {
 
 fn finish(image: &Image, output: &mut [u8]) -> u32 {
     let state = State::read(image);
-    let number = first(&[(!state.well_formed(), 6), (output.len() != state.width.digest(), 3)]);
+    let number = first(&[state.at_fault(), (output.len() != state.width.digest(), 3)]);
     if number == 0 {
         output.copy_from_slice(&state.digest());
     }
@@ -185,7 +192,7 @@ fn finish(image: &Image, output: &mut [u8]) -> u32 {
 
 fn export(image: &Image, output: &mut [u8]) -> u32 {
     let state = State::read(image);
-    let number = first(&[(!state.well_formed(), 6), (output.len() != state.width.record(), 3), (state.fill != 0, 2)]);
+    let number = first(&[state.at_fault(), (output.len() != state.width.record(), 3), (state.fill != 0, 2)]);
     if number == 0 {
         output.copy_from_slice(&state.record());
     }
@@ -218,7 +225,7 @@ fn one_shot(width: Width, length: usize, message: &[u8], output: &mut [u8]) -> u
 
 fn sheet_length(image: &Image) -> u64 {
     let state = State::read(image);
-    if !state.well_formed() {
+    if state.fault() != (0, 0) {
         return 0;
     }
     state.sheet().len() as u64
@@ -226,15 +233,11 @@ fn sheet_length(image: &Image) -> u64 {
 
 fn write_sheet(image: &Image, output: &mut [u8]) -> u32 {
     let state = State::read(image);
-    if !state.well_formed() {
-        return 6;
+    let number = first(&[state.at_fault(), (output.len() as u64 != sheet_length(image), 3)]);
+    if number == 0 {
+        output.copy_from_slice(&state.sheet());
     }
-    let sheet = state.sheet();
-    if output.len() != sheet.len() {
-        return 3;
-    }
-    output.copy_from_slice(&sheet);
-    0
+    number
 }
 
 fn read_sheet(image: &mut Image, text: &[u8], place: &mut u64) -> u32 {
@@ -264,6 +267,11 @@ pub fn answer(before: &Image, call: &Call) -> Answer {
         Call::Reset => {
             image = State::fresh(State::read(before).width).image();
             0
+        }
+        Call::Fault => {
+            let (number, index) = State::read(before).fault();
+            value = index;
+            number
         }
         Call::Feed(piece) => feed(&mut image, piece.length(), piece.bytes()),
         Call::Finish(_) => finish(&image, &mut output),

@@ -99,17 +99,15 @@ fn any_sheet(random: &mut Random, written: &[u8]) -> Vec<u8> {
     }
 }
 
-/// A copy of the image with one thing changed; not every change makes it ill-formed.
-fn damaged(random: &mut Random, image: &Image) -> Image {
-    let mut damaged = *image;
+/// Changes one thing; not every change makes the image ill-formed.
+fn damage(random: &mut Random, image: &mut Image) {
     let (from, to) = random.pick(&[(0, 1), (0, 8), (8, 16), (16, 24), (40, 64), (64, 128), (0, 128)]);
     match random.below(4) {
-        0 => damaged[from..to].copy_from_slice(&random.bytes(to - from)),
-        1 => damaged[8..16].copy_from_slice(&any_count(random).to_le_bytes()),
-        2 => damaged[16..24].copy_from_slice(&random.any_size().to_le_bytes()),
-        _ => damaged[from + random.below(to - from)] ^= 1 << random.below(8),
+        0 => image[from..to].copy_from_slice(&random.bytes(to - from)),
+        1 => image[8..16].copy_from_slice(&any_count(random).to_le_bytes()),
+        2 => image[16..24].copy_from_slice(&random.any_size().to_le_bytes()),
+        _ => image[from + random.below(to - from)] ^= 1 << random.below(8),
     }
-    damaged
 }
 
 /// The last record and the last sheet that were written.
@@ -152,6 +150,7 @@ fn one_call(group: &mut Group, random: &mut Random, image: &mut Image, written: 
         6..=11 => Call::OneShot(width, Input::Bytes(&piece), output_length(random, width.digest())),
         12..=20 => Call::Finish(output_length(random, own.digest())),
         21..=29 => Call::Export(output_length(random, own.record())),
+        30..=35 => Call::Fault,
         _ => Call::Feed(Input::Bytes(&piece)),
     };
     let answer = group.call(image, call);
@@ -169,7 +168,10 @@ pub fn sequences(seed: u64, calls: u64) -> Group {
         group.case();
         // Most damage is done to a copy, so that the sequence goes on; some of it stays.
         if random.one_in(8) {
-            let mut copy = damaged(&mut random, &image);
+            let mut copy = image;
+            for _ in 0..=random.below(3) {
+                damage(&mut random, &mut copy);
+            }
             one_call(&mut group, &mut random, &mut copy, &mut written);
             if random.one_in(50) {
                 image = copy;
@@ -178,8 +180,8 @@ pub fn sequences(seed: u64, calls: u64) -> Group {
             one_call(&mut group, &mut random, &mut image, &mut written);
         }
     }
-    for number in 0..9 {
-        let met = (group.numbers[number] > 0) as u32;
+    for number in [0, 1, 2, 3, 4, 5, 7, 8, 60, 61, 62, 63, 64] {
+        let met = group.numbers.contains_key(&number) as u32;
         group.number(&format!("whether number {number} came up"), met, 1);
     }
     group

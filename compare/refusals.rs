@@ -157,7 +157,7 @@ pub fn no_blocks(width: Width) -> Group {
             group.number("import of a record cut short", number, 4);
         }
         for fill in [0, 1, 55, 63] {
-            for (count, right) in [(0, 6), (1, 0)] {
+            for (count, right) in [(0, 64), (1, 0)] {
                 group.case();
                 let image = State { words, ..State::read(&image_at(width, count, fill)) }.image();
                 let number = group.feed(&mut image.clone(), b"abc").number;
@@ -215,45 +215,6 @@ pub fn wrong_lengths(width: Width) -> Group {
         let call = Call::OneShot(width, Input::Bytes(b"abc"), length);
         let number = group.call(&mut [0; 128], call).number;
         group.number("one_shot", number, if length == width.digest() { 0 } else { 3 });
-    }
-    group
-}
-
-/// Images with one fault of the scope each.
-fn faulty_images(width: Width) -> Vec<Image> {
-    let mut images = Vec::new();
-    for (count, fill) in [(0, 0), (1, 1), (BLOCKS - 1, 63)] {
-        let good = image_at(width, count, fill);
-        for fill in [64, 65, 127, 128, 255, 256, 320, 1 << 32, 1 << 63, u64::MAX] {
-            images.push(State { fill, ..State::read(&good) }.image());
-        }
-        for count in [BLOCKS, BLOCKS + 1, 1 << 56, 1 << 63, u64::MAX] {
-            images.push(State { count, ..State::read(&good) }.image());
-        }
-    }
-    for fill in 0..64 {
-        for at in fill..64 {
-            let mut image = image_at(width, 2, fill);
-            image[64 + at] = if at % 2 == 0 { 1 } else { 0x80 };
-            images.push(image);
-        }
-    }
-    for spare in 24 + 4 * width.words()..64 {
-        let mut image = image_at(width, 2, 9);
-        image[spare] = 1;
-        images.push(image);
-    }
-    images
-}
-
-pub fn ill_formed(width: Width) -> Group {
-    let mut group = Group::new(format!("ill-formed images, {}", width.bits()));
-    for image in faulty_images(width) {
-        group.case();
-        // Too long as well: the image must be told first.
-        let number = group.call(&mut image.clone(), Call::Feed(Input::Claimed(usize::MAX))).number;
-        group.number("feed", number, 6);
-        group.every_call(&image);
     }
     group
 }

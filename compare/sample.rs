@@ -13,6 +13,9 @@
 //!                                                the message's first 127 bytes, its byte n set to 58 (hex)
 //!     read       whole, or short                 the same for that sheet as it is, or without its last
 //!                                                byte
+//!     fault      what is changed, or none        number and index, one byte each, for the state after the
+//!                                                message's first 73 bytes with this changed
+//!     feed       the same                        the same, given by feed
 #![allow(dead_code)]
 
 mod c128;
@@ -95,6 +98,25 @@ fn sheets(width: Width) {
     read(width, "short", &sheet[..sheet.len() - 1]);
 }
 
+fn faults(width: Width) {
+    let damages: [(&str, fn(&mut State)); 6] = [
+        ("none", |_| ()),
+        ("fill=64", |state| state.fill = 64),
+        ("count=2^55", |state| state.count = BLOCKS),
+        ("tail[40,63]=1", |state| (state.tail[40], state.tail[63]) = (1, 1)),
+        ("words[5,8]=1", |state| (state.words[5], state.words[8]) = (1, 1)),
+        ("count=0", |state| state.count = 0),
+    ];
+    for (name, damage) in damages {
+        let mut state = taken(width, 73);
+        damage(&mut state);
+        let fault = model::answer(&state.image(), &Call::Fault);
+        let fed = model::answer(&state.image(), &Call::Feed(Input::Bytes(b"abc")));
+        line(width, "fault", name, &[fault.number as u8, fault.value as u8]);
+        line(width, "feed", name, &[fed.number as u8, fault.value as u8]);
+    }
+}
+
 fn main() {
     for width in WIDTHS {
         vectors(width);
@@ -105,5 +127,6 @@ fn main() {
         last_count(width);
         imports(width);
         sheets(width);
+        faults(width);
     }
 }

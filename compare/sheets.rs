@@ -11,7 +11,7 @@ const COUNTS: [u64; 6] = [0, 1, 10_u64.pow(16), BLOCKS - 1, BLOCKS, 10_u64.pow(1
 const FILLS: [usize; 4] = [0, 1, 55, 63];
 
 /// A state with that count and fill, well formed but for a count that is too high.
-fn state_at(width: Width, count: u64, fill: usize) -> State {
+pub fn state_at(width: Width, count: u64, fill: usize) -> State {
     State { count, ..State::read(&image_at(width, count.min(1), fill)) }
 }
 
@@ -62,7 +62,7 @@ pub fn counts_and_fills(width: Width) -> Group {
             for length in [0, 1, text.len() - 1, text.len(), text.len() + 1, text.len() + 256] {
                 let number = group.call(&mut state.image(), Call::WriteSheet(length)).number;
                 let fits = if length == text.len() { 0 } else { 3 };
-                group.number("write_sheet", number, if count < BLOCKS { fits } else { 6 });
+                group.number("write_sheet", number, if count < BLOCKS { fits } else { 61 });
             }
             group.every_call(&state.image());
         }

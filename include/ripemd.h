@@ -48,9 +48,9 @@ extern "C" {
 #define RIPEMD_STATE_LENGTH 128
 
 /*
- * The number that a call gives back. Anything but RIPEMD_DONE is a refusal.
- * Where several would hold, the call's comment lists them in order and only
- * the first that holds is given.
+ * The number that a call gives back. Anything but RIPEMD_DONE is a refusal,
+ * or a fault that ripemd_fault was asked for. Where several would hold, the
+ * call's comment lists them in order and only the first that holds is given.
  */
 enum ripemd_number {
     RIPEMD_DONE = 0,
@@ -59,9 +59,13 @@ enum ripemd_number {
     RIPEMD_OUTPUT_LENGTH = 3, /* the output is not exactly of the length asked for */
     RIPEMD_RECORD_LENGTH = 4, /* the record is not exactly of the width's length */
     RIPEMD_RECORD_COUNT = 5,  /* the record's or sheet's block count is 2^55 or more */
-    RIPEMD_ILL_FORMED = 6,    /* the state is not well formed */
     RIPEMD_RECORD_WORDS = 7,  /* the record's or sheet's block count is 0, and its words are not the initial ones */
-    RIPEMD_SHEET_SHAPE = 8    /* the text is not of a sheet's shape */
+    RIPEMD_SHEET_SHAPE = 8,   /* the text is not of a sheet's shape */
+    RIPEMD_FILL = 60,         /* the state's fill is 64 or more */
+    RIPEMD_COUNT = 61,        /* the state's block count is 2^55 or more */
+    RIPEMD_TAIL = 62,         /* a byte of the state's tail, from the fill on, is not zero */
+    RIPEMD_SPARE_WORD = 63,   /* a word that the state's width doesn't use is not zero */
+    RIPEMD_START = 64         /* the state's block count is 0, and its words are not the initial ones */
 };
 
 /*
@@ -71,16 +75,14 @@ enum ripemd_number {
  *     bytes 1-7      written as zero, not read
  *     bytes 8-15     count of whole blocks taken
  *     bytes 16-23    fill: bytes of the block that is not yet whole
- *     bytes 24-63    ten words of four bytes
+ *     bytes 24-63    ten words of four bytes: width 128 uses words 0 to 3,
+ *                    160 words 0 to 4, 256 words 0 to 7, and 320 all ten
  *     bytes 64-127   tail: the block that is not yet whole
  *
- * It is well formed when the count is below 2^55, the fill is at most 63,
- * the tail is zero from the fill on, the words that the width doesn't use
- * are zero (width 128 uses words 0 to 3, 160 words 0 to 4, 256 words 0 to 7,
- * and 320 all ten) and, where the count is 0, the words are the width's
- * initial ones, as a fresh state has them. So memory of zeros is no state.
- * Every call below leaves a well formed state so; only damage from outside
- * makes another.
+ * It is well formed when it has none of the faults RIPEMD_FILL to
+ * RIPEMD_START. The initial words are those of a fresh state, so memory of
+ * zeros is no state. Every call below leaves a well formed state so; only
+ * damage from outside makes another.
  */
 typedef struct ripemd_state {
     uint8_t image[RIPEMD_STATE_LENGTH];
@@ -102,10 +104,23 @@ void ripemd_fresh320(ripemd_state *state);
 void ripemd_reset(ripemd_state *state);
 
 /*
+ * Tells what is wrong with the state: RIPEMD_FILL then RIPEMD_COUNT then
+ * RIPEMD_TAIL then RIPEMD_SPARE_WORD then RIPEMD_START; RIPEMD_DONE where it
+ * is well formed. The state is only read. Never refused.
+ * The index: with RIPEMD_TAIL that of the first wrong byte in the tail, 0 to
+ * 63; with RIPEMD_SPARE_WORD that of the first wrong word among the ten, 0 to
+ * 9; 0 with every other number.
+ * A call below that is refused for a fault leaves the state byte for byte as
+ * it was, and for that state ripemd_fault gives the same number, and so the
+ * index.
+ */
+uint32_t ripemd_fault(const ripemd_state *state, uint64_t *index);
+
+/*
  * Takes the next n bytes of the message; pieces may be cut anywhere.
  * Done: all n bytes are taken.
- * Refused, RIPEMD_ILL_FORMED then RIPEMD_TOO_LONG: none is taken, and the
- * state is byte for byte as it was.
+ * Refused, a fault as ripemd_fault gives it, then RIPEMD_TOO_LONG: none is
+ * taken, and the state is byte for byte as it was.
  */
 uint32_t ripemd_feed(ripemd_state *state, const uint8_t *piece, size_t n);
 
@@ -114,7 +129,8 @@ uint32_t ripemd_feed(ripemd_state *state, const uint8_t *piece, size_t n);
  * feeding may go on.
  * Done: all n bytes of the output are the digest; n is 16, 20, 32 or 40 by
  * width.
- * Refused, RIPEMD_ILL_FORMED then RIPEMD_OUTPUT_LENGTH: no byte is written.
+ * Refused, a fault as ripemd_fault gives it, then RIPEMD_OUTPUT_LENGTH: no
+ * byte is written.
  */
 uint32_t ripemd_finish(const ripemd_state *state, uint8_t *output, size_t n);
 
@@ -125,7 +141,7 @@ uint32_t ripemd_finish(const ripemd_state *state, uint8_t *output, size_t n);
  * Ripemd160Core, Ripemd256Core, Ripemd320Core). The state is only read.
  * Done: all n bytes of the output are the record; n is 24, 28, 40 or 48 by
  * width.
- * Refused, RIPEMD_ILL_FORMED then RIPEMD_OUTPUT_LENGTH then
+ * Refused, a fault as ripemd_fault gives it, then RIPEMD_OUTPUT_LENGTH then
  * RIPEMD_MID_BLOCK: no byte is written.
  */
 uint32_t ripemd_export(const ripemd_state *state, uint8_t *output, size_t n);
@@ -177,7 +193,8 @@ uint64_t ripemd_sheet_length(const ripemd_state *state);
  * read, and feeding may go on.
  * Done: all n bytes of the output are the sheet; n is what
  * ripemd_sheet_length gives.
- * Refused, RIPEMD_ILL_FORMED then RIPEMD_OUTPUT_LENGTH: no byte is written.
+ * Refused, a fault as ripemd_fault gives it, then RIPEMD_OUTPUT_LENGTH: no
+ * byte is written.
  */
 uint32_t ripemd_write_sheet(const ripemd_state *state, uint8_t *output, size_t n);
 

@@ -172,6 +172,29 @@ fn sheets(w: Width, m: &[u8]) {
     undamaged(w, m);
 }
 
+// The state after the message's first 73 bytes, as it is, and with each fault.
+fn faults(w: Width, m: &[u8]) {
+    let s = fed(ripemd::fresh(w), text::first(m, 73));
+    rows::faults(w, b"none", s);
+    let mut d = s;
+    d.fill = 64;
+    rows::faults(w, b"fill=64", d);
+    d = s;
+    d.count.0 = 0x0080_0000_0000_0000;
+    rows::faults(w, b"count=2^55", d);
+    d = s;
+    d.tail[40] = 1;
+    d.tail[63] = 1;
+    rows::faults(w, b"tail[40,63]=1", d);
+    d = s;
+    d.words[5] = 1;
+    d.words[8] = 1;
+    rows::faults(w, b"words[5,8]=1", d);
+    d = s;
+    d.count.0 = 0;
+    rows::faults(w, b"count=0", d);
+}
+
 fn sample(w: Width) {
     let m = message();
     vectors(w);
@@ -180,6 +203,7 @@ fn sample(w: Width) {
     lasts(w, &m);
     imports(w);
     sheets(w, &m);
+    faults(w, &m);
 }
 
 fn main() {

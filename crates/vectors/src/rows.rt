@@ -49,13 +49,28 @@ pub fn record_at(w: Width, number: usize, s: State) {
     );
 }
 
-// Number and place of reading a text, a byte each.
+// A number, and the place or the index beside it, a byte each.
+fn pair(number: u32, beside: usize) -> [u8; 2] {
+    let mut out = [0u8; 2];
+    words::bytes::put(&mut out, 0, 1, number as u64);
+    words::bytes::put(&mut out, 1, 1, beside as u64);
+    out
+}
+
+// What reading gives a text.
 pub fn readout(text: &[u8]) -> [u8; 2] {
     let r = sheet::read(text);
-    let mut out = [0u8; 2];
-    words::bytes::put(&mut out, 0, 1, r.number as u64);
-    words::bytes::put(&mut out, 1, 1, r.place as u64);
-    out
+    pair(r.number, r.place)
+}
+
+// What fault and feed give a state, under the name of what was done to it.
+pub fn faults(w: Width, name: &[u8], s: State) {
+    let a = ripemd::fault(s);
+    let told = pair(a.number, a.index);
+    named(w, b"fault", name, &told);
+    let f = ripemd::feed(s, b"abc");
+    let fed = pair(f.number, f.index);
+    named(w, b"feed", name, &fed);
 }
 
 // A number of import, under a name.
