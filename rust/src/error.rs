@@ -4,47 +4,85 @@ use std::fmt;
 use std::io;
 
 /// Why a call was refused. A refused call changes nothing.
+///
+/// The cases from [`Fill`](Self::Fill) on say what is wrong with a state that was damaged in memory,
+/// and of several faults the first in this order. No call of this crate makes such a state.
 #[derive(Clone, Copy, Debug, PartialEq, Eq, Hash)]
 #[non_exhaustive]
 pub enum Error {
     /// The message would have 2^61 bytes or more; nothing of the piece was taken.
-    TooLong = 1,
+    TooLong,
     /// The bytes taken are not a multiple of 64, so there is no record of them.
-    MidBlock = 2,
-    /// The output is not exactly of the width's length. This crate's arrays always are.
-    OutputLength = 3,
+    MidBlock,
+    /// The output is not exactly of the width's length. This crate's arrays always are, unless the
+    /// width itself was damaged in memory.
+    OutputLength,
     /// The record is not exactly of the width's length.
-    RecordLength = 4,
+    RecordLength,
     /// The record's block count is 2^55 or more.
-    RecordCount = 5,
-    /// The state is not well formed. Only a fault of the memory makes one.
-    IllFormed = 6,
+    RecordCount,
     /// The record's block count is 0, and its words are not the width's initial ones.
-    RecordWords = 7,
+    RecordWords,
+    /// The state's fill, the bytes of the block that is not yet whole, is 64 or more.
+    Fill,
+    /// The state's block count is 2^55 or more.
+    Count,
+    /// The state's tail, the block that is not yet whole, is not zero from the fill on.
+    Tail {
+        /// The lowest such byte, from 0 to 63: byte 64 + `index` of the state's memory.
+        index: usize,
+    },
+    /// The state has a word other than zero that its width does not use.
+    SpareWord {
+        /// The lowest such word, from 0 to 9: four bytes from 24 + 4 * `index` of the state's memory on.
+        index: usize,
+    },
+    /// The state's block count is 0, and its words are not the width's initial ones.
+    Start,
 }
 
 impl Error {
-    const ALL: [Error; 7] = [
-        Error::TooLong,
-        Error::MidBlock,
-        Error::OutputLength,
-        Error::RecordLength,
-        Error::RecordCount,
-        Error::IllFormed,
-        Error::RecordWords,
-    ];
+    /// Every case, those that have an index with this one.
+    fn all(index: usize) -> [Error; 11] {
+        [
+            Error::TooLong,
+            Error::MidBlock,
+            Error::OutputLength,
+            Error::RecordLength,
+            Error::RecordCount,
+            Error::RecordWords,
+            Error::Fill,
+            Error::Count,
+            Error::Tail { index },
+            Error::SpareWord { index },
+            Error::Start,
+        ]
+    }
 
     /// The number that the library gives for this refusal, as in `include/ripemd.h`.
     pub fn number(self) -> u32 {
-        self as u32
+        match self {
+            Error::TooLong => 1,
+            Error::MidBlock => 2,
+            Error::OutputLength => 3,
+            Error::RecordLength => 4,
+            Error::RecordCount => 5,
+            Error::RecordWords => 7,
+            Error::Fill => 60,
+            Error::Count => 61,
+            Error::Tail { .. } => 62,
+            Error::SpareWord { .. } => 63,
+            Error::Start => 64,
+        }
     }
 
-    /// What a number of the library says: 0 is done, every other a refusal.
-    pub(crate) fn told(number: u32) -> Result<(), Error> {
+    /// What a number of the library says, with the index that it names: 0 is done, every other a
+    /// refusal.
+    pub(crate) fn told(number: u32, index: usize) -> Result<(), Error> {
         if number == 0 {
             return Ok(());
         }
-        let named = Error::ALL
+        let named = Error::all(index)
             .into_iter()
             .find(|error| error.number() == number);
         Err(named.unwrap_or_else(|| unknown(number)))
@@ -55,17 +93,26 @@ fn unknown(number: u32) -> ! {
     panic!("number {number} of libripemd_c.a is new to this crate: build both from one version")
 }
 
+/// Says what is wrong with a state, and what to do whatever it is.
+fn damaged(f: &mut fmt::Formatter<'_>, wrong: fmt::Arguments<'_>) -> fmt::Result {
+    write!(f, "the state is damaged: {wrong}: drop it, resume from the last good record or sheet, else from the first byte, and feed what follows; if this comes again, test the memory and look for code that writes outside its buffer")
+}
+
 impl fmt::Display for Error {
     fn fmt(&self, f: &mut fmt::Formatter<'_>) -> fmt::Result {
-        f.write_str(match self {
-            Error::TooLong => "the message would have 2^61 bytes or more: finish it and begin another",
-            Error::MidBlock => "bytes taken are not a multiple of 64: keep a sheet, or keep those after the last multiple and feed them after the restart",
-            Error::OutputLength => "the output has the wrong length: lend exactly as many bytes as the digest or record has",
-            Error::RecordLength => "the record has the wrong length: take it whole: 24 bytes at width 128, 28 at 160, 40 at 256 and 48 at 320",
-            Error::RecordCount => "the record's block count is 2^55 or more, so it is damaged: take another record",
-            Error::IllFormed => "the state is damaged: reset it, or go on from a record",
-            Error::RecordWords => "the record has no blocks and words that no message has then, so it is damaged or was wiped: take another record",
-        })
+        match self {
+            Error::TooLong => f.write_str("the message would have 2^61 bytes or more: finish it and begin another"),
+            Error::MidBlock => f.write_str("bytes taken are not a multiple of 64: keep a sheet, or keep those after the last multiple and feed them after the restart"),
+            Error::OutputLength => damaged(f, format_args!("its width is not the hasher's, so its first byte was changed")),
+            Error::RecordLength => f.write_str("the record has the wrong length: take it whole: 24 bytes at width 128, 28 at 160, 40 at 256 and 48 at 320"),
+            Error::RecordCount => f.write_str("the record's block count is 2^55 or more, so it is damaged: take another record"),
+            Error::RecordWords => f.write_str("the record has no blocks and words that no message has then, so it is damaged or was wiped: take another record"),
+            Error::Fill => damaged(f, format_args!("its fill is 64 or more, so its memory was changed or never set")),
+            Error::Count => damaged(f, format_args!("its block count is 2^55 or more, so its memory was changed or never set")),
+            Error::Tail { index } => damaged(f, format_args!("byte {index} of its tail should be zero, so that byte or the fill was changed")),
+            Error::SpareWord { index } => damaged(f, format_args!("word {index} should be zero at its width, so that word or the width was changed")),
+            Error::Start => damaged(f, format_args!("it has no blocks and words that no message has then, so its memory was changed, wiped to zeros or never set")),
+        }
     }
 }
 
@@ -143,5 +190,26 @@ impl std::error::Error for SheetError {}
 impl From<SheetError> for io::Error {
     fn from(error: SheetError) -> io::Error {
         io::Error::new(io::ErrorKind::InvalidInput, error)
+    }
+}
+
+#[cfg(test)]
+mod tests {
+    use super::Error;
+
+    #[test]
+    fn numbers_both_ways() {
+        for index in 0..64 {
+            assert_eq!(Error::told(0, index), Ok(()));
+            for error in Error::all(index) {
+                assert_eq!(Error::told(error.number(), index), Err(error));
+            }
+        }
+    }
+
+    #[test]
+    #[should_panic(expected = "build both from one version")]
+    fn a_number_that_is_gone() {
+        let _ = Error::told(6, 0);
     }
 }

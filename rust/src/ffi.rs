@@ -3,11 +3,12 @@
 
 use crate::{Error, SheetError};
 
-/// The memory of a state; the library alone writes it, so it is always well formed.
+/// The memory of a state; the library alone writes it, so only damage from outside can spoil it.
 pub(crate) type Image = [u8; 128];
 
 extern "C" {
     fn ripemd_reset(state: &mut Image);
+    fn ripemd_fault(state: &Image, index: &mut u64) -> u32;
     fn ripemd_feed(state: &mut Image, piece: *const u8, n: usize) -> u32;
     fn ripemd_finish(state: &Image, output: *mut u8, n: usize) -> u32;
     fn ripemd_export(state: &Image, output: *mut u8, n: usize) -> u32;
@@ -60,25 +61,51 @@ pub(crate) fn reset(image: &mut Image) {
     unsafe { ripemd_reset(image) }
 }
 
+/// The number for what is wrong with the state, 0 for nothing, and the index that goes with it.
+fn fault(image: &Image) -> (u32, usize) {
+    let mut index = 0;
+    // SAFETY: `image` is only read; `index` is a local of the right type.
+    let number = unsafe { ripemd_fault(image, &mut index) };
+    (number, index as usize)
+}
+
+pub(crate) fn check(image: &Image) -> Result<(), Error> {
+    let (number, index) = fault(image);
+    Error::told(number, index)
+}
+
+/// What the number of a call on this state says. The call itself tells no index, and a refused one
+/// leaves the state as it was, so it can be asked for here.
+fn told(number: u32, image: &Image) -> Result<(), Error> {
+    match number {
+        0 => Ok(()),
+        _ => Error::told(number, fault(image).1),
+    }
+}
+
 pub(crate) fn feed(image: &mut Image, piece: &[u8]) -> Result<(), Error> {
     // SAFETY: `image` is borrowed for this call alone; `piece` is read within its length.
-    Error::told(unsafe { ripemd_feed(image, piece.as_ptr(), piece.len()) })
+    let number = unsafe { ripemd_feed(image, piece.as_ptr(), piece.len()) };
+    told(number, image)
 }
 
 pub(crate) fn finish(image: &Image, output: &mut [u8]) -> Result<(), Error> {
     // SAFETY: `image` is only read; `output` is borrowed for this call and written within its length.
-    Error::told(unsafe { ripemd_finish(image, output.as_mut_ptr(), output.len()) })
+    let number = unsafe { ripemd_finish(image, output.as_mut_ptr(), output.len()) };
+    told(number, image)
 }
 
 pub(crate) fn export(image: &Image, output: &mut [u8]) -> Result<(), Error> {
     // SAFETY: `image` is only read; `output` is borrowed for this call and written within its length.
-    Error::told(unsafe { ripemd_export(image, output.as_mut_ptr(), output.len()) })
+    let number = unsafe { ripemd_export(image, output.as_mut_ptr(), output.len()) };
+    told(number, image)
 }
 
 pub(crate) fn import(width: Width, record: &[u8]) -> Result<Image, Error> {
     let mut image = [0; 128];
     // SAFETY: `image` is a local of the right length; `record` is read within its length.
-    Error::told(unsafe { (width.import)(&mut image, record.as_ptr(), record.len()) })?;
+    let number = unsafe { (width.import)(&mut image, record.as_ptr(), record.len()) };
+    Error::told(number, 0)?;
     Ok(image)
 }
 
@@ -87,7 +114,8 @@ pub(crate) fn write_sheet(image: &Image) -> Result<Vec<u8>, Error> {
     let length = unsafe { ripemd_sheet_length(image) };
     let mut sheet = vec![0; length as usize];
     // SAFETY: `image` is only read; `sheet` is a local and written within its length.
-    Error::told(unsafe { ripemd_write_sheet(image, sheet.as_mut_ptr(), sheet.len()) })?;
+    let number = unsafe { ripemd_write_sheet(image, sheet.as_mut_ptr(), sheet.len()) };
+    told(number, image)?;
     Ok(sheet)
 }
 
@@ -108,12 +136,13 @@ pub(crate) fn read_sheet(width: Width, sheet: &[u8]) -> Result<Image, SheetError
 
 pub(crate) fn one_shot(width: Width, message: &[u8], output: &mut [u8]) -> Result<(), Error> {
     // SAFETY: `message` is read and `output` written within their lengths; they cannot overlap.
-    Error::told(unsafe {
+    let number = unsafe {
         (width.one_shot)(
             message.as_ptr(),
             message.len(),
             output.as_mut_ptr(),
             output.len(),
         )
-    })
+    };
+    Error::told(number, 0)
 }

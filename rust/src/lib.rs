@@ -56,6 +56,28 @@
 //! # Ok::<(), SheetError>(())
 //! ```
 //!
+//! # After a memory fault
+//!
+//! A hasher is 128 bytes of memory. Every call that uses them is refused where they hold what no
+//! message leaves there, or panics where it has no error to give; `check` only looks. The error says
+//! what is wrong, where, and what to do.
+//!
+//! ```
+//! use ripemd::Ripemd160;
+//!
+//! let mut hasher = Ripemd160::new();
+//! hasher.update("message ");
+//! let kept = hasher.to_sheet();
+//! hasher.update("digest");
+//! if let Err(error) = hasher.check() {
+//!     eprintln!("number {}: {error}", error.number());
+//!     hasher = Ripemd160::from_sheet(&kept)?;
+//!     hasher.update("digest");
+//! }
+//! assert_eq!(hasher.finalize(), Ripemd160::digest("message digest"));
+//! # Ok::<(), ripemd::SheetError>(())
+//! ```
+//!
 //! # From a reader
 //!
 //! ```
@@ -78,12 +100,20 @@
 //! - `deserialize` refuses a block count of 0 with words other than the initial ones, such as a record
 //!   that was wiped to zeros. The old crate took it.
 //!
+//! # Coming from version 1
+//!
+//! - In place of `Error::IllFormed`, number 6, five cases say what is wrong with a state:
+//!   [`Error::Fill`], [`Error::Count`], [`Error::Tail`], [`Error::SpareWord`] and [`Error::Start`].
+//! - Two of them carry an index, so write `error.number()` for `error as u32`.
+//!
 //! # Building
 //!
 //! `rt staticlib ripemd_c` in the repository's root writes the library to `target/staticlib`, where
 //! the build looks for it; `RIPEMD_LIB_DIR` names another folder. It is x86-64 code.
 #![deny(missing_docs, unsafe_code)]
 
+#[cfg(test)]
+mod damage;
 mod error;
 mod ffi;
 mod hasher;
@@ -91,7 +121,7 @@ mod hasher;
 pub use error::{Error, SheetError};
 
 use ffi::Image;
-use hasher::{hasher, NEVER};
+use hasher::{given, hasher};
 use std::{fmt, io};
 
 hasher!(Ripemd128, "128", ffi::W128, 16, 24);

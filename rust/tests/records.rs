@@ -1,4 +1,4 @@
-//! Records across a restart, and every `Error` that this crate can give.
+//! Records across a restart, what is refused there, and every `Error` with its number and words.
 
 use ripemd::Error;
 use std::io::Write;
@@ -64,7 +64,10 @@ macro_rules! records {
 
             #[test]
             fn no_blocks_and_other_words() {
-                assert_eq!($name::deserialize(&[0; RECORD]).unwrap_err(), Error::RecordWords);
+                assert_eq!(
+                    $name::deserialize(&[0; RECORD]).unwrap_err(),
+                    Error::RecordWords
+                );
                 let fresh = $name::new().serialize().unwrap();
                 for bit in 0..8 * DIGEST {
                     let mut record = fresh;
@@ -113,22 +116,45 @@ fn a_fresh_record_as_the_old_crate_wrote_it() {
     assert_eq!(ripemd::Ripemd160::new().serialize(), Ok(want));
 }
 
+/// The names and numbers of the header's refusals.
+fn of_the_header() -> Vec<(&'static str, u32)> {
+    let lines = include_str!("../../include/ripemd.h").lines();
+    let named = lines.filter_map(|line| {
+        let (name, rest) = line.trim().strip_prefix("RIPEMD_")?.split_once(" = ")?;
+        let digits = rest.split([',', ' ']).next()?;
+        Some((name, digits.parse().ok()?))
+    });
+    named.filter(|(_, number)| *number != 0).collect()
+}
+
 #[test]
 fn numbers_are_those_of_the_header() {
-    let header = include_str!("../../include/ripemd.h");
-    for (name, error) in [
-        ("TOO_LONG", Error::TooLong),
-        ("MID_BLOCK", Error::MidBlock),
-        ("OUTPUT_LENGTH", Error::OutputLength),
-        ("RECORD_LENGTH", Error::RecordLength),
-        ("RECORD_COUNT", Error::RecordCount),
-        ("ILL_FORMED", Error::IllFormed),
-        ("RECORD_WORDS", Error::RecordWords),
+    let tail = Error::Tail { index: 40 };
+    let spare = Error::SpareWord { index: 9 };
+    let mut named = Vec::new();
+    for (name, error, says) in [
+        ("TOO_LONG", Error::TooLong, "2^61"),
+        ("MID_BLOCK", Error::MidBlock, "a multiple of 64"),
+        ("OUTPUT_LENGTH", Error::OutputLength, "its width is not"),
+        ("RECORD_LENGTH", Error::RecordLength, "the wrong length"),
+        ("RECORD_COUNT", Error::RecordCount, "2^55"),
+        ("RECORD_WORDS", Error::RecordWords, "no blocks"),
+        ("FILL", Error::Fill, "its fill is 64 or more"),
+        ("COUNT", Error::Count, "its block count is 2^55 or more"),
+        ("TAIL", tail, "byte 40 of its tail should be zero"),
+        ("SPARE_WORD", spare, "word 9 should be zero at its width"),
+        ("START", Error::Start, "wiped to zeros or never set"),
     ] {
-        assert!(header.contains(&format!("RIPEMD_{name} = {}", error.number())));
-        assert!(
-            error.to_string().contains(": "),
-            "what to do follows a colon"
-        );
+        let told = error.to_string();
+        assert!(told.contains(says), "{told}");
+        assert!(told.contains(": "), "what to do follows a colon");
+        let damaged = told.starts_with("the state is damaged: ");
+        assert_eq!(damaged, told.contains("the last good record or sheet"));
+        assert!(damaged || error.number() < 60);
+        named.push((name, error.number()));
     }
+    // No `Error` stands for the shape of a sheet.
+    named.push(("SHEET_SHAPE", 8));
+    named.sort_by_key(|(_, number)| *number);
+    assert_eq!(of_the_header(), named);
 }
