@@ -1,12 +1,12 @@
 -- What reading gives a text that is a sheet and one that is none; and the width along which a text goes farthest.
 -- Assumes nothing.
 use Prim.Native.Nat.{ℕ, _^_, _≤_, max}
-use mathlib.Core.Path.{_≡_, refl, ap, sym, _∙_}
+use mathlib.Core.Path.{_≡_, refl, ap, _∙_}
 use mathlib.Core.Bool.{Bool, true, false, cond}
 use mathlib.Core.List.{List}
 use native.Mathlib.Omega.{arith}
 use borrow.Author.Tests.{ne-eqb, ltb-true, ltb-false, lt-leb}
-use lib.Dec.{leb, ltb}
+use lib.Dec.{eqb, leb, ltb}
 use Rattle.compress.specs.declared.Width.{Width}
 use Rattle.compress.specs.declared.Width.the-variants.{W128, W160, W256, W320}
 use Rattle.ripemd.specs.State.{wrongStart, faultOf}
@@ -31,34 +31,15 @@ module _ (s : State) (k : Plain s) where
   unfolding faultOf
   fault-is = rw (lt-leb 64 (s .fill) (k .0), k .1, k .2)
 
-  pub held-count : faultOf s ≡ 61 → heldNumber s ≡ 5
+  pub held-by-fault : heldNumber s ≡ cond (eqb (faultOf s) 61) 5 (cond (eqb (faultOf s) 64) 7 0)
   unfolding heldNumber
-  held-count e = by-test (leb (2 ^ 55) (s .count .0)) (wrongStart (s .width) (s .words) (s .count .0)) (sym fault-is ∙ e)
+  held-by-fault = by-test (leb (2 ^ 55) (s .count .0)) (wrongStart (s .width) (s .words) (s .count .0)) ∙ rw fault-is
     where
-      by-test : (a b : Bool) → _≡_ {A = ℕ} (cond a 61 (cond b 64 0)) 61 → _≡_ {A = ℕ} (cond a 5 (cond b 7 0)) 5
-      by-test true b e = refl
-      by-test false true e = absurd (omega arith)
-      by-test false false e = absurd (omega arith)
-
-  pub held-start : faultOf s ≡ 64 → heldNumber s ≡ 7
-  unfolding heldNumber
-  held-start e = by-test (leb (2 ^ 55) (s .count .0)) (wrongStart (s .width) (s .words) (s .count .0)) (sym fault-is ∙ e)
-    where
-      by-test : (a b : Bool) → _≡_ {A = ℕ} (cond a 61 (cond b 64 0)) 64 → _≡_ {A = ℕ} (cond a 5 (cond b 7 0)) 7
-      by-test true b e = absurd (omega arith)
-      by-test false true e = refl
-      by-test false false e = absurd (omega arith)
-
-  pub held-right : (faultOf s ≡ 61 → ⊥) → (faultOf s ≡ 64 → ⊥) → heldNumber s ≡ 0
-  unfolding heldNumber
-  held-right m n =
-      by-test (leb (2 ^ 55) (s .count .0)) (wrongStart (s .width) (s .words) (s .count .0)) (λ e. m (fault-is ∙ e)) (λ e. n (fault-is ∙ e))
-    where
-      by-test : (a b : Bool) → (_≡_ {A = ℕ} (cond a 61 (cond b 64 0)) 61 → ⊥) → (_≡_ {A = ℕ} (cond a 61 (cond b 64 0)) 64 → ⊥)
-          → _≡_ {A = ℕ} (cond a 5 (cond b 7 0)) 0
-      by-test true b m n = absurd (m refl)
-      by-test false true m n = absurd (n refl)
-      by-test false false m n = refl
+      by-test : (a b : Bool)
+          → _≡_ {A = ℕ} (cond a 5 (cond b 7 0)) (cond (eqb (cond a 61 (cond b 64 0)) 61) 5 (cond (eqb (cond a 61 (cond b 64 0)) 64) 7 0))
+      by-test true b = refl
+      by-test false true = refl
+      by-test false false = refl
 
 module _ (l : List ℕ) where
   pub read-right : isSheet l ≡ true → readOf l ≡ held (stateIn l)
