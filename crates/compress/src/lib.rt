@@ -1,4 +1,6 @@
 // One block at any width, on ten words: the paper's compression function.
+#![tactic(auto)]
+
 mod c128;
 mod c160;
 mod c256;
@@ -17,7 +19,7 @@ use lines::Both;
 use tables::{Line, Size};
 
 // In the order of their numbers in the C face's image, so that it takes no table to read one.
-#[derive(Drop)]
+#[derive(Clone, Copy)]
 pub enum Width {
     W160,
     W320,
@@ -130,9 +132,9 @@ fn combine(z: Size, exchanging: bool, h: [u32; 10], p: Both) -> [u32; 10]
 
 // h after one block. The constants are lent and the function has two callers, so that LLVM does not see them here.
 fn one_block(w: Width, h: &mut [u32; 10], block: &[u8], k: &[u32; 5], k2: &[u32; 5])
-    requires block_len { length block.now ≡ 64 }
-    requires constants { Constants Left k.now }
-    requires constants_2 { Constants Right k2.now }
+    requires block_length { length block.now ≡ 64 }
+    requires left_constants { Constants Left k.now }
+    requires right_constants { Constants Right k2.now }
     ensures { h.new ≡ compress_of w h.old (words_of 16 block.now) }
 {
     let x = words::bytes::message_words(block);

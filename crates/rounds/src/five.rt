@@ -23,8 +23,8 @@ pub fn rounds(
     s2: &[u32; 80],
     k2: &[u32; 5],
 ) -> Both
-    requires tables { Tables Left r.now s.now k.now }
-    requires tables_2 { Tables Right r2.now s2.now k2.now }
+    requires left_tables { Tables Left r.now s.now k.now }
+    requires right_tables { Tables Right r2.now s2.now k2.now }
     ensures { result ≡ places_of Five (rounds_of Five exchanging x.now (count_of Five) (names_of Five p)) }
 {
     let a = lines::walk(Size::Five, p, x, r, s, k, r2, s2, k2, 0, 8);

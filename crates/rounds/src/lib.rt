@@ -1,4 +1,6 @@
 // All rounds of both lines, of four registers or of five, with the exchange after each or without.
+#![tactic(auto)]
+
 mod five;
 mod four;
 
@@ -34,8 +36,8 @@ pub fn rounds(
     s2: &[u32; 80],
     k2: &[u32; 5],
 ) -> Both
-    requires tables { Tables Left r.now s.now k.now }
-    requires tables_2 { Tables Right r2.now s2.now k2.now }
+    requires left_tables { Tables Left r.now s.now k.now }
+    requires right_tables { Tables Right r2.now s2.now k2.now }
     ensures { result ≡ places_of z (rounds_of z exchanging x.now (count_of z) (names_of z p)) }
 {
     match z {

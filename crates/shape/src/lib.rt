@@ -5,7 +5,7 @@ ghost use Rattle.std.specs.Prelude.{◌≡◌, ◌≤◌, length, drop};
 ghost use Rattle.shape.specs.Shape.{within, allows_of, along_of, run_of, numeral_of};
 
 // The bytes that may stand at a place of a text: that byte alone; 1 to 9; 0 to 9; 0 to 9 and a to f.
-#[derive(Drop)]
+#[derive(Clone, Copy)]
 pub enum Class {
     Just(u8),
     Leading,

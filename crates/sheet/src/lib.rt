@@ -9,14 +9,14 @@ use ripemd::{State, Width};
 pub use writing::{sheet_length, write};
 
 // How far a text goes along the sheets of a width.
-#[derive(Drop)]
+#[derive(Clone, Copy)]
 struct Far {
     place: usize,
     width: Width,
 }
 
 // What read gives: on a refusal a fresh 160; the place is 0 with every number but 8.
-#[derive(Drop)]
+#[derive(Clone, Copy)]
 pub struct Readout {
     pub number: u32,
     pub place: usize,

@@ -1,4 +1,6 @@
 // 32-bit words: addition modulo 2^32, the cyclic shift, a sum with one of the paper's five functions, and whether words are the same.
+#![tactic(auto)]
+
 pub mod bytes;
 
 ghost use Rattle.std.specs.Prelude.{◌≡◌, ◌<◌, length};

@@ -1,0 +1,12 @@
+-- `words::bytes::message_words` meets its contract: the first i words are read.
+-- Assumes nothing.
+use Rattle.std.proofs.Common.{◌≡◌, ◌-◌, ◌≤◌, ◌++◌, replicate}
+use Rattle.words.specs.Bytes.{words_of}
+use Rattle.words.proofs.bytes.message_words.Given as goal
+
+abbrev pub invariant-loop-i : goal.invariant-loop-i
+invariant-loop-i l =
+    (l.i ≤ 16) × (l.x ≡ words_of l.i l.block ++ replicate (16 - l.i) 0)
+
+abbrev pub decreases-loop-i : goal.decreases-loop-i
+decreases-loop-i l = 16 - l.i
