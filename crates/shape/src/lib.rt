@@ -1,4 +1,6 @@
 // How far a text goes along a shape, part by part, and what the digits in it stand for.
+#![tactic(auto)]
+
 pub mod digits;
 
 ghost use Rattle.std.specs.Prelude.{◌≡◌, ◌≤◌, length, drop};

@@ -1,4 +1,6 @@
 // The sheet of a state: its text form, for paper. Written into a lent buffer, and read back.
+#![tactic(auto)]
+
 mod fields;
 mod reaching;
 pub mod reading;

@@ -1,5 +1,7 @@
 // Text written into a lent buffer. Each function returns the place after its text. Where the text doesn't fit,
 // nothing is written and the place comes back as it was.
+#![tactic(auto)]
+
 ghost use Rattle.std.specs.Prelude.{◌≡◌, ◌≤◌, ◌<◌, length, take, drop};
 ghost use Rattle.text.specs.Text.{decimal_of, hex_digit, hex_of, next_at, put_at};
 
