@@ -1,5 +1,7 @@
 // The digest, the record and the sheet of a state of any width, in the first bytes of a buffer with room for the largest: for programs that go
 // over the widths.
+#![tactic(auto)]
+
 ghost use Rattle.std.specs.Prelude.{◌≡◌, ◌≤◌, length, take};
 ghost use Rattle.ripemd.specs.State.{answer_of};
 ghost use Rattle.ripemd.specs.Digest.{digest_length};
