@@ -46,6 +46,7 @@ at_least_60 n (inr (inl p)) = omega arith
 at_least_60 n (inr (inr (inl p))) = omega arith
 at_least_60 n (inr (inr (inr (inl p)))) = omega arith
 at_least_60 n (inr (inr (inr (inr (inl p))))) = omega arith
+at_least_60 n (inr (inr (inr (inr (inr none))))) = elim none [ ]
 
 -- the rows behind the faults have lower numbers
 abbrev pub Lower : List Row → Type 0

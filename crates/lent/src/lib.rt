@@ -1,4 +1,6 @@
 // Feeding a state where it lies, as `&mut self` does in the Rust. It is the by-value feed, and is proved to match it.
+#![tactic(auto)]
+
 ghost use Rattle.std.specs.Prelude.{◌≡◌};
 ghost use Rattle.ripemd.specs.Feed.{feed_of, answered};
 
