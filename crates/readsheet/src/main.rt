@@ -1,47 +1,50 @@
 // The program: reads a sheet on standard input and writes one line, what the sheet holds or where it is wrong.
+#![tactic(auto)]
+
 mod output;
 
 ghost use Rattle.std.specs.Prelude.{◌≡◌, ◌≤◌};
 ghost use Rattle.readsheet.specs.Reading.{keep_of, turn_of, Turned, Heard, Answered};
 
-use libc::{STDIN_FILENO, STDOUT_FILENO};
+use io::count;
+use std::io::{Read, Stdin};
 
 // How reading ended: with the whole input or all of it that matters, or by a read that failed.
-#[derive(Drop)]
+#[derive(Clone, Copy)]
 pub enum Ending {
     Done,
     Failed,
 }
 
 // What comes after one read.
-#[derive(Drop)]
+#[derive(Clone, Copy)]
 pub enum Step {
     More,
     End(Ending),
 }
 
 // The first bytes of the input, of which length are kept. A sheet has at most 254, so that no later byte changes the answer.
-#[derive(Drop)]
+#[derive(Clone, Copy)]
 pub struct Kept {
     pub bytes: [u8; 256],
     pub length: usize,
 }
 
-#[derive(Drop)]
+#[derive(Clone, Copy)]
 pub struct Turn {
     pub step: Step,
     pub kept: Kept,
 }
 
 // How reading ended, and what it kept.
-#[derive(Drop)]
+#[derive(Clone, Copy)]
 pub struct Outcome {
     pub ending: Ending,
     pub kept: Kept,
 }
 
 // A text of length bytes at the front of bytes.
-#[derive(Drop)]
+#[derive(Clone, Copy)]
 pub struct Text {
     pub bytes: [u8; 96],
     pub length: usize,
@@ -73,7 +76,7 @@ fn after_read(k: Kept, got: isize, buffer: &[u8]) -> Turn
             kept: k,
         };
     }
-    let n = io::count(got, buffer);
+    let n = count(got, buffer);
     if n == 0 {
         return Turn {
             step: Step::End(Ending::Done),
@@ -94,17 +97,20 @@ fn after_read(k: Kept, got: isize, buffer: &[u8]) -> Turn
     }
 }
 
-fn read_some(k: Kept) -> Turn
+fn read_some(k: Kept, mut input: Stdin) -> Turn
     requires { k.length ≤ 256 }
     ensures { Turned k result }
 {
     let mut buffer = [0u8; 256];
-    let got = libc::read(STDIN_FILENO, &mut buffer);
+    let got = match input.read(&mut buffer) {
+        Ok(n) => n as isize,
+        Err(_) => -1,
+    };
     after_read(k, got, &buffer)
 }
 
 // It ends because each turn that asks for more has kept a byte, and there is room for 256.
-fn read_all() -> Outcome
+fn read_all(input: Stdin) -> Outcome
     ensures { Heard result }
 {
     let mut k = Kept {
@@ -112,7 +118,7 @@ fn read_all() -> Outcome
         length: 0,
     };
     loop {
-        let t = read_some(k);
+        let t = read_some(k, input);
         let next = t.kept;
         let step = t.step;
         if let Step::End(e) = step {
@@ -125,10 +131,10 @@ fn read_all() -> Outcome
     }
 }
 
-fn answer() -> Text
+fn answer(input: Stdin) -> Text
     ensures { Answered result }
 {
-    let o = read_all();
+    let o = read_all(input);
     let e = o.ending;
     let k = o.kept;
     let bytes = k.bytes;
@@ -136,9 +142,9 @@ fn answer() -> Text
     output::written(e, &bytes[..n])
 }
 
-fn main() {
-    let t = answer();
+fn main(rt: HostRuntime) -> std::io::Result<()> {
+    let t = answer(rt.stdin());
     let bytes = t.bytes;
     let n = t.length;
-    io::write_all(STDOUT_FILENO, &bytes[..n]);
+    rt.write_all(&bytes[..n])
 }

@@ -1,14 +1,17 @@
 // The program: reads standard input to its end and writes its digest at width 160, in the scope's three lines.
+#![tactic(auto)]
+
 mod output;
 
 ghost use Rattle.std.specs.Prelude.{◌≡◌};
 ghost use Rattle.rmd160.specs.Reading.{turn_of, Turned, Heard, Answered};
 
-use libc::{STDIN_FILENO, STDOUT_FILENO};
+use io::count;
 use ripemd::{State, Width};
+use std::io::{Read, Stdin};
 
 // How reading ended: at the end of the input, by a read that failed, or by a piece that feed refused with 1.
-#[derive(Drop)]
+#[derive(Clone, Copy)]
 pub enum Ending {
     Done,
     Failed,
@@ -16,27 +19,27 @@ pub enum Ending {
 }
 
 // What comes after one read.
-#[derive(Drop)]
+#[derive(Clone, Copy)]
 pub enum Step {
     More,
     End(Ending),
 }
 
-#[derive(Drop)]
+#[derive(Clone, Copy)]
 pub struct Turn {
     pub step: Step,
     pub state: State,
 }
 
 // How reading ended, and the state that had taken every piece before.
-#[derive(Drop)]
+#[derive(Clone, Copy)]
 pub struct Outcome {
     pub ending: Ending,
     pub state: State,
 }
 
 // A text of length bytes at the front of bytes.
-#[derive(Drop)]
+#[derive(Clone, Copy)]
 pub struct Text {
     pub bytes: [u8; 96],
     pub length: usize,
@@ -52,7 +55,7 @@ fn after_read(s: State, got: isize, buffer: &[u8]) -> Turn
             state: s,
         };
     }
-    let n = io::count(got, buffer);
+    let n = count(got, buffer);
     if n == 0 {
         return Turn {
             step: Step::End(Ending::Done),
@@ -74,21 +77,24 @@ fn after_read(s: State, got: isize, buffer: &[u8]) -> Turn
     }
 }
 
-fn read_some(s: State) -> Turn
+fn read_some(s: State, mut input: Stdin) -> Turn
     ensures { Turned s result }
 {
     let mut buffer = [0u8; 4096];
-    let got = libc::read(STDIN_FILENO, &mut buffer);
+    let got = match input.read(&mut buffer) {
+        Ok(n) => n as isize,
+        Err(_) => -1,
+    };
     after_read(s, got, &buffer)
 }
 
 // It ends because each turn that asks for more has taken a byte, and no state takes 2^61.
-fn read_all() -> Outcome
+fn read_all(input: Stdin) -> Outcome
     ensures { Heard result }
 {
     let mut s = ripemd::fresh(Width::W160);
     loop {
-        let t = read_some(s);
+        let t = read_some(s, input);
         let next = t.state;
         let step = t.step;
         if let Step::End(e) = step {
@@ -101,18 +107,18 @@ fn read_all() -> Outcome
     }
 }
 
-fn answer() -> Text
+fn answer(input: Stdin) -> Text
     ensures { Answered result }
 {
-    let o = read_all();
+    let o = read_all(input);
     let e = o.ending;
     let s = o.state;
     output::written(e, s)
 }
 
-fn main() {
-    let t = answer();
+fn main(rt: HostRuntime) -> std::io::Result<()> {
+    let t = answer(rt.stdin());
     let bytes = t.bytes;
     let n = t.length;
-    io::write_all(STDOUT_FILENO, &bytes[..n]);
+    rt.write_all(&bytes[..n])
 }
