@@ -1,14 +1,17 @@
 // The reason for all this, played through: a sixty-day log in odd pieces, hashed once straight through, and once over a sheet after each piece
 // and an export and an import at every point where that is allowed, with refused calls in between. Both digests are the same.
+#![tactic(auto)]
+
 mod log;
 mod report;
 
 ghost use Rattle.std.specs.Prelude.{◌≤◌};
 
 use ripemd::{State, Width};
+use std::io;
 
 // A state, and how often it was resumed, or how many bytes it took.
-#[derive(Drop)]
+#[derive(Clone, Copy)]
 struct Run {
     state: State,
     number: u64,
@@ -107,21 +110,21 @@ fn restarted(w: Width) -> Run {
     }
 }
 
-fn campaign(w: Width) {
+fn campaign(rt: &impl Print, w: Width) -> io::Result<()> {
     let one = straight(w);
     let two = restarted(w);
     let a = one.state;
     let b = two.state;
-    report::number(b"width=", 8 * front::digest_length(w) as u64);
-    report::number(b"bytes=", one.number);
-    report::number(b"restarts=", two.number);
-    report::digest(w, b"straight=", a);
-    report::digest(w, b"restarted=", b);
+    report::number(rt, b"width=", 8 * front::digest_length(w) as u64)?;
+    report::number(rt, b"bytes=", one.number)?;
+    report::number(rt, b"restarts=", two.number)?;
+    report::digest(rt, w, b"straight=", a)?;
+    report::digest(rt, w, b"restarted=", b)
 }
 
-fn main() {
-    campaign(Width::W128);
-    campaign(Width::W160);
-    campaign(Width::W256);
-    campaign(Width::W320);
+fn main(rt: HostRuntime) -> io::Result<()> {
+    campaign(&rt, Width::W128)?;
+    campaign(&rt, Width::W160)?;
+    campaign(&rt, Width::W256)?;
+    campaign(&rt, Width::W320)
 }
