@@ -6,23 +6,20 @@ ghost use Rattle.ripemd_c.specs.Image.{state_of, image_of};
 
 use crate::images;
 
-#[unsafe(no_mangle)]
-pub extern "C" fn ripemd_sheet_length(state: &[u8; 128]) -> u64
+pub fn ripemd_sheet_length(state: &[u8; 128]) -> u64
     ensures { result ≡ length_of (state_of state.now) }
 {
     sheet::sheet_length(images::state(state)) as u64
 }
 
-#[unsafe(no_mangle)]
-pub extern "C" fn ripemd_write_sheet(state: &[u8; 128], out: &mut [u8]) -> u32
+pub fn ripemd_write_sheet(state: &[u8; 128], out: &mut [u8]) -> u32
     ensures { (result ≡ write_number (state_of state.now) (length out.old)) × (out.new ≡ write_bytes (state_of state.now) out.old) }
 {
     let a = sheet::write(images::state(state), out);
     a.number
 }
 
-#[unsafe(no_mangle)]
-pub extern "C" fn ripemd_read_sheet(state: &mut [u8; 128], sheet: &[u8], place: &mut u64) -> u32
+pub fn ripemd_read_sheet(state: &mut [u8; 128], sheet: &[u8], place: &mut u64) -> u32
     ensures { (result ≡ (read_of sheet.now).number) × (state.new ≡ image_of (read_of sheet.now).state) × (place.new ≡ (read_of sheet.now).place) }
 {
     let r = sheet::read(sheet);
