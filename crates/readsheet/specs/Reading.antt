@@ -1,6 +1,6 @@
 -- What reading makes of what read answers, and what is known of the program's answer.
 -- Assumes nothing.
-use Rattle.std.specs.Prelude.{ℕ, ◌-◌, ◌≤◌, ◌≡◌, cond, List, [], ◌∷◌, eqb, ℤ, length, take}
+use Rattle.std.specs.Prelude.{ℕ, ◌-◌, ◌≤◌, ◌≡◌, cond, List, [], ◌∷◌, eqb, ℤ, take}
 use Rattle.text.specs.Text.{put_at, next_at}
 use Rattle.input.specs.Read.{answered}
 use Rattle.readsheet.specs.Lines.{answer_of}

@@ -1,6 +1,6 @@
 -- The shape that is computed is the one that is defined: a text goes along it as far as some text of right shape shares its beginning.
 -- Assumes nothing.
-use Prim.Native.Nat.{ℕ, ◌≤◌, ◌+◌}
+use Prim.Native.Nat.{ℕ, ◌≤◌}
 use mathlib.Core.Path.{◌≡◌, refl, ap, sym, ◌∙◌}
 use mathlib.Core.Bool.{Bool, true, false}
 use mathlib.Core.List.{List, ◌++◌}

@@ -1,11 +1,10 @@
 -- `readsheet::read_all` meets its contract. The loop's bytes are some message of fewer than 256, which is longer after each turn.
 -- Assumes nothing.
-use Prim.Native.Nat.{◌-◌}
 use mathlib.Core.Path.{refl}
 use mathlib.Core.List.{[]}
 use native.Mathlib.Omega.{arith}
 use lib.ListN.{length-take}
-use Rattle.readsheet.proofs.Taken.{After, nothing, after, heard, further}
+use Rattle.readsheet.proofs.Taken.{nothing, after, heard, further}
 use Rattle.readsheet.proofs.read_all.Goals as goal
 
 pub loop-e-init : goal.loop-e-init

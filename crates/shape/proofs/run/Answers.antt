@@ -4,7 +4,6 @@ use Prim.Native.Nat.{◌+◌, ◌-◌}
 use mathlib.Core.Path.{◌≡◌, sym, ◌∙◌}
 use native.Mathlib.Omega.{arith}
 use lib.ListN.{drop}
-use borrow.Author.Tests.{not-false}
 use Rattle.shape.proofs.Loops.{run_more, run_other, run_out, run_none}
 use Rattle.shape.proofs.run.Goals as goal
 

@@ -1,6 +1,6 @@
 -- `words::same` meets its contract: nothing differs before i.
 -- Assumes nothing.
-use Rattle.std.proofs.Common.{◌-◌, sym, refl, ◌∙◌, arith, rules}
+use Rattle.std.proofs.Common.{sym, refl, ◌∙◌, arith, rules}
 use Rattle.words.proofs.Runs.{same_not, same_on, same_end}
 use Rattle.words.proofs.same.Goals as goal
 

@@ -1,8 +1,7 @@
 -- `readsheet::output::line_at` meets its contract: `line` is the line of the byte at `j`, and at most `j` lines were passed.
 -- Assumes nothing.
-use Prim.Native.Nat.{ℕ, ◌+◌, ◌-◌, ◌<◌}
+use Prim.Native.Nat.{ℕ, ◌+◌, ◌<◌}
 use mathlib.Core.Path.{◌≡◌, ap, ◌∙◌}
-use mathlib.Core.Logic.{⊎_elim}
 use native.Mathlib.Omega.{arith}
 use lib.ListN.{length}
 use Rattle.readsheet.specs.Lines.{line_at}

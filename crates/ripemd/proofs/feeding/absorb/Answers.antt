@@ -1,6 +1,5 @@
 -- `ripemd::feeding::absorb` meets its contract: h is the chain over the first i blocks.
 -- Assumes nothing.
-use Prim.Native.Nat.{◌-◌}
 use mathlib.Core.Path.{◌≡◌, ap, sym, ◌∙◌}
 use mathlib.Core.List.{◌++◌}
 use native.Mathlib.Omega.{arith}

@@ -1,6 +1,6 @@
 -- `ripemd::feeding::fill_up` meets its contract: j bytes are in place.
 -- Assumes nothing.
-use Prim.Native.Nat.{ℕ, ◌<◌, ◌-◌, ◌+◌}
+use Prim.Native.Nat.{ℕ, ◌<◌, ◌+◌}
 use mathlib.Core.Path.{◌≡◌, ◌∙◌, ap}
 use native.Mathlib.Omega.{arith}
 use lib.ListN.{length, drop, length-drop}

@@ -1,6 +1,5 @@
 -- `ripemd::padding::in_two_blocks` meets its contract: j bytes are in place.
 -- Assumes nothing.
-use Prim.Native.Nat.{◌-◌}
 use mathlib.Core.Path.{◌≡◌, ◌∙◌, ap}
 use native.Mathlib.Omega.{arith}
 use lib.ListN.{length, replicate}

@@ -1,6 +1,5 @@
 -- `ripemd::states::lowest_word` meets its contract: nothing that stands before i was found.
 -- Assumes nothing.
-use Prim.Native.Nat.{◌-◌}
 use mathlib.Core.Path.{refl, sym, ◌∙◌}
 use Rattle.ripemd.proofs.Lowest.{lowest_here, lowest_on, lowest_end}
 use Rattle.ripemd.proofs.states.lowest_word.Goals as goal

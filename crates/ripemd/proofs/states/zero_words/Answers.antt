@@ -1,6 +1,5 @@
 -- `ripemd::states::zero_words` meets its contract: `any` gathers what stands before i.
 -- Assumes nothing.
-use Prim.Native.Nat.{◌-◌}
 use mathlib.Core.Path.{refl, sym, ap, ◌∙◌}
 use mathlib.Core.Bool.{Bool, ◌&&◌, and-true}
 use native.Mathlib.Omega.{arith}

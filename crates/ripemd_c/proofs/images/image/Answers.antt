@@ -1,10 +1,8 @@
 -- `ripemd_c::images::image` meets its contract.
 -- Assumes nothing.
 use borrow.Author.Rules.{rules}
-use mathlib.Core.Path.{◌≡◌, sym, ◌∙◌}
-use native.Mathlib.Omega.{arith}
+use mathlib.Core.Path.{◌≡◌, sym}
 use lib.ListN.{length}
-use borrow.Rule.Slice.PartMut.{same_len_mid}
 use Rattle.ripemd_c.specs.Image.{image_of}
 use Rattle.ripemd_c.proofs.Laid.{image_laid}
 use Rattle.ripemd_c.proofs.images.image.Goals as goal

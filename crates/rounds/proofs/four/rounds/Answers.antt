@@ -1,8 +1,5 @@
 -- `rounds::four::rounds` meets its contract.
 -- Assumes nothing.
-use mathlib.Core.Path.{◌≡◌}
-use lib.ListN.{length}
-use native.Mathlib.Omega.{arith}
 use Rattle.tables.specs.declared.Size.TheVariants.{Four}
 use Rattle.rounds.proofs.Engine.{all_rounds_lem}
 use borrow.Author.Rules.{rules}

@@ -2,7 +2,7 @@
 -- Assumes nothing.
 use mathlib.Core.Path.{◌≡◌, refl, ap, ◌∙◌}
 use native.Mathlib.Omega.{arith}
-use Prim.Native.Nat.{◌-◌, ◌*◌}
+use Prim.Native.Nat.{◌*◌}
 use lib.ListN.{take, drop, length-set}
 use lib.Seq.{paste}
 use Rattle.words.proofs.Copies.{copy_more, copied}

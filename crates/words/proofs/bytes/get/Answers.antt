@@ -1,6 +1,6 @@
 -- `words::bytes::get` meets its contract.
 -- Assumes nothing.
-use Rattle.std.proofs.Common.{◌≡◌, ℕ, suc, ◌+◌, ◌-◌, ◌<◌, [], get_or, take, drop, ap, ◌∙◌, arith, lit<, drop_of_length-le, length-take}
+use Rattle.std.proofs.Common.{◌≡◌, ℕ, suc, ◌+◌, ◌-◌, [], get_or, take, drop, ap, ◌∙◌, arith, lit<, drop_of_length-le, length-take}
 use Rattle.words.specs.Bytes.{number_of}
 use Rattle.words.proofs.Numbers.{number_step, pow_room, pow_more}
 use Rattle.words.proofs.bytes.get.Goals as goal

@@ -1,6 +1,6 @@
 -- `words::bytes::put` meets its contract.
 -- Assumes nothing.
-use Rattle.std.proofs.Common.{◌≡◌, ℕ, ◌+◌, ◌-◌, List, ◌++◌, length, take, drop, sym, ap, ◌∙◌, add-one, arith, take_all, rules}
+use Rattle.std.proofs.Common.{◌≡◌, ℕ, ◌+◌, List, ◌++◌, length, take, drop, sym, ap, ◌∙◌, add-one, arith, take_all, rules}
 use native.Mathlib.Nat.{sub-zero}
 use lib.Seq.{paste, paste-suc, paste-zero, length-paste}
 use Rattle.words.specs.Bytes.{bytes_of}

@@ -1,6 +1,6 @@
 -- `words::bytes::put_words` meets its contract.
 -- Assumes nothing.
-use Rattle.std.proofs.Common.{◌≡◌, ℕ, ◌+◌, ◌-◌, ◌*◌, ◌≤◌, List, ◌++◌, length, get_or, take, drop, sym, refl, ap, ◌∙◌, arith, take-append-drop, rules}
+use Rattle.std.proofs.Common.{◌≡◌, ℕ, ◌+◌, ◌*◌, ◌≤◌, List, ◌++◌, length, get_or, take, drop, sym, refl, ap, ◌∙◌, arith, take-append-drop, rules}
 use Rattle.words.specs.Bytes.{word_bytes}
 use Rattle.words.proofs.Numbers.{word_more, word_rest}
 use Rattle.words.proofs.bytes.put_words.Goals as goal
