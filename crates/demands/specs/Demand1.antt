@@ -2,13 +2,13 @@
 -- state that it got (a refused import: a fresh one of the width asked) and every byte of its output as it was.
 -- That every call ends and is defined for all input is what the prover says of each function without a `requires`.
 -- Assumes nothing.
-use Rattle.std.specs.Prelude.{ℕ, ◌+◌, ◌^◌, ◌≤◌, ◌≡◌, refl, List, [], ◌∷◌, length, replicate}
+use Rattle.std.specs.Prelude.{ℕ, ◌^◌, ◌≤◌, ◌≡◌, refl, List, [], ◌∷◌, length, replicate}
 use Rattle.std.proofs.Common.{arith}
 use Rattle.compress.specs.Block.{initial_of}
 use Rattle.compress.specs.declared.Width.{Width}
 use Rattle.compress.specs.declared.Width.TheVariants.{W128, W160, W256, W320}
-use Rattle.ripemd.specs.State.{taken_of, wrong_start, answer_of, fresh_of, between}
-use Rattle.ripemd.specs.Feed.{feed_number, feed_of, answered, fed_state}
+use Rattle.ripemd.specs.State.{wrong_start, fresh_of, between}
+use Rattle.ripemd.specs.Feed.{feed_number, feed_of, fed_state}
 use Rattle.ripemd.specs.Digest.{digest_length, published}
 use Rattle.ripemd.specs.Finish.{digest_of, finish_number, finish_bytes, one_shot_number, one_shot_bytes}
 use Rattle.ripemd.specs.Record.{record_length, record_of, words_in, count_in, export_number, export_bytes, import_number, import_of}
@@ -16,42 +16,15 @@ use Rattle.ripemd.specs.declared.State.{State}
 use Rattle.ripemd.proofs.Outcomes.{refused}
 use Rattle.demands.specs.Numbers.{number, nothing, Given, no_row, given}
 use Rattle.demands.specs.Rows.{equal_row, least_row, start_row}
-use Rattle.demands.specs.Faults.{faults, Asked, fault_first}
 
 -- ---- the calls
--- feed: the state's fault, then 1 where the bytes taken and the piece make 2^61 or more
-pub feed_numbers : (s : State) (p : List ℕ)
-    → Asked s (60 ∷ 61 ∷ 62 ∷ 63 ∷ 64 ∷ 1 ∷ 0 ∷ []) (faults s (number 1 (2 ^ 61 ≤ taken_of s + length p) nothing)) (answered (feed_of s p))
-unfolding feed_of feed_number
-feed_numbers s p =
-    fault_first s _ (omega arith, tt) _ (least_row 1 (2 ^ 61) (taken_of s + length p) [] nothing (λ e. omega arith) no_row)
-
 pub feed_refused : (s : State) (p : List ℕ) → ¬ ((feed_of s p).number ≡ 0) → (feed_of s p).state ≡ s
 unfolding feed_of
 feed_refused s p n = refused (feed_number s p) (fed_state s p) s n
 
--- finish: the state's fault, then 3 for an output of another length
-pub finish_numbers : (s : State) (o : List ℕ)
-    → Asked s (60 ∷ 61 ∷ 62 ∷ 63 ∷ 64 ∷ 3 ∷ 0 ∷ []) (faults s (number 3 (¬ (length o ≡ digest_length s.width)) nothing))
-    (answer_of s (finish_number s (length o)))
-unfolding finish_number
-finish_numbers s o =
-    fault_first s _ (omega arith, tt) _ (equal_row 3 (length o) (digest_length s.width) [] nothing (λ e. omega arith) no_row)
-
 pub finish_refused : (s : State) (o : List ℕ) → ¬ (finish_number s (length o) ≡ 0) → finish_bytes s o ≡ o
 unfolding finish_bytes
 finish_refused s o n = refused (finish_number s (length o)) (digest_of s) o n
-
--- export: the state's fault, then 3, then 2 for a fill that isn't 0
-pub export_numbers : (s : State) (o : List ℕ)
-    → Asked s (60 ∷ 61 ∷ 62 ∷ 63 ∷ 64 ∷ 3 ∷ 2 ∷ 0 ∷ [])
-    (faults s (number 3 (¬ (length o ≡ record_length s.width)) (number 2 (¬ (s.fill ≡ 0)) nothing)))
-    (answer_of s (export_number s (length o)))
-unfolding export_number
-export_numbers s o =
-    fault_first s _ (omega arith, (omega arith, tt)) _
-    (equal_row 3 (length o) (record_length s.width) _ _ (λ e. omega arith, λ e. omega arith)
-    (equal_row 2 s.fill 0 [] nothing (λ e. omega arith) no_row))
 
 pub export_refused : (s : State) (o : List ℕ) → ¬ (export_number s (length o) ≡ 0) → export_bytes s o ≡ o
 unfolding export_bytes

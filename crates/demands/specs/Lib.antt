@@ -4,6 +4,5 @@ pub mod Faults
 pub mod Demand1
 pub mod Demand2
 pub mod Sheets
-pub mod Listed
 pub mod Demand3
 pub mod Table

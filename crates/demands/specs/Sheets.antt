@@ -1,36 +1,26 @@
 -- THE STATE SHEET. Numbers and place of write and read, exactly, as demand 1 has them of the other calls; and a state and its sheet, one for one.
 -- Assumes nothing.
-use Rattle.std.specs.Prelude.{ℕ, ◌-◌, ◌^◌, ◌≤◌, ◌≡◌, true, false, not, List, [], ◌∷◌, length, take, drop, replicate}
-use Rattle.std.proofs.Common.{ap, sym, ◌∙◌, true≢false, ⊎_elim, arith, ne_eqb, ltb-false, length-drop}
+use Rattle.std.specs.Prelude.{ℕ, ◌-◌, ◌^◌, ◌≤◌, ◌≡◌, true, false, not, List, [], ◌∷◌, length, drop, replicate}
+use Rattle.std.proofs.Common.{ap, sym, ◌∙◌, true≢false, ⊎_elim, arith, ne_eqb, length-drop}
 use Rattle.std.proofs.lemmas.Bool.{not-true, not-false}
 use Rattle.words.specs.Bytes.{Below}
 use Rattle.compress.specs.Block.{used_of, initial_of}
 use Rattle.compress.specs.declared.Width.TheVariants.{W160}
 use Rattle.ripemd.specs.Refusals.{Row, ◌when◌}
-use Rattle.ripemd.specs.State.{WellFormed, fault_of, answer_of, fresh_of}
+use Rattle.ripemd.specs.State.{WellFormed, fault_of, fresh_of}
 use Rattle.ripemd.specs.declared.State.{State}
 use Rattle.ripemd.proofs.Well.{well, no_fault}
 use Rattle.ripemd.proofs.Zeros.{zeros_are}
 use Rattle.ripemd.proofs.Outcomes.{accepted, refused}
 use Rattle.ripemd.proofs.Kept.{Sound}
-use Rattle.shape.specs.Shape.{reach}
-use Rattle.sheet.specs.Sheet.{Shaped, Begins, sheet_of, length_of, write_number, write_bytes}
-use Rattle.sheet.specs.Reading.{sheet_shape, is_sheet, state_with, state_in, held_rows, read_number, read_of}
+use Rattle.sheet.specs.Sheet.{Shaped, sheet_of, length_of, write_number, write_bytes}
+use Rattle.sheet.specs.Reading.{is_sheet, state_with, state_in, held_rows, read_number, read_of}
 use Rattle.sheet.specs.declared.Readout.{Readout}
 use Rattle.sheet.proofs.Written.{length_is}
-use Rattle.sheet.proofs.Answers.{read_wrong}
-use Rattle.sheet.proofs.Places.{shaped_or_not, begins, longest}
+use Rattle.sheet.proofs.Places.{shaped_or_not}
 use Rattle.sheet.proofs.Again.{state_in_lem, read_sheet, accepted_sheet}
 use Rattle.demands.specs.Numbers.{number, nothing, Given, Other, Decides, no_row, one_row, given}
-use Rattle.demands.specs.Rows.{equal_row, least_row, start_row}
-use Rattle.demands.specs.Faults.{faults, Asked, fault_first}
-
--- ---- write: the state's fault, then 3 for an output of another length than the sheet's
-pub write_numbers : (s : State) (o : List ℕ)
-    → Asked s (60 ∷ 61 ∷ 62 ∷ 63 ∷ 64 ∷ 3 ∷ 0 ∷ []) (faults s (number 3 (¬ (length o ≡ length (sheet_of s))) nothing)) (answer_of s (write_number s (length o)))
-unfolding write_number
-write_numbers s o =
-    fault_first s _ (omega arith, tt) _ (equal_row 3 (length o) (length (sheet_of s)) [] nothing (λ e. omega arith) no_row)
+use Rattle.demands.specs.Rows.{least_row, start_row}
 
 pub write_done : (s : State) (o : List ℕ) → write_number s (length o) ≡ 0 → write_bytes s o ≡ sheet_of s
 unfolding write_bytes
@@ -84,18 +74,6 @@ read_numbers l =
 -- what those rows speak of: the state that a text of right shape is the sheet of
 pub read_state : (l : List ℕ) (k : Shaped l) → state_in l ≡ state_with k.width k.count k.words k.tail
 read_state l k = state_in_lem l k
-
--- with 8 the place: so many bytes begin some text of right shape, and no longer beginning does
-pub read_place : (l : List ℕ) → (read_of l).number ≡ 8
-    → ((read_of l).place ≤ length l)
-    × Begins (take (read_of l).place l)
-    × ((n : ℕ) → n ≤ length l → Begins (take n l) → n ≤ (read_of l).place)
-read_place l e =
-    ⊎_elim
-    (λ h. absurd (((read_numbers l).exactly.0.0 e).1 h.0))
-    (λ h. let k = ltb-false (length l) (reach sheet_shape l) h.1 in
-    rw (ap (λ (r : Readout). r.place) (read_wrong l h.1)) (k, begins l k, longest l))
-    (shaped_or_not l)
 
 -- with every other number the place is 0
 pub read_no_place : (l : List ℕ) → ¬ ((read_of l).number ≡ 8) → (read_of l).place ≡ 0

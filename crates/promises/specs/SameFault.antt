@@ -19,8 +19,8 @@ use Rattle.ripemd_c.proofs.ripemd_export.Reads as export-reads
 use Rattle.ripemd_c.proofs.sheets.ripemd_write_sheet.Kinds as write-kinds
 use Rattle.ripemd_c.proofs.sheets.ripemd_write_sheet.Reads as write-reads
 use Rattle.demands.specs.Faults.{Fault}
-use Rattle.demands.specs.Demand1.{feed_numbers, finish_numbers, export_numbers}
-use Rattle.demands.specs.Sheets.{write_numbers}
+use Rattle.demands.proofs.Demand1.{feed_numbers, finish_numbers, export_numbers}
+use Rattle.demands.proofs.Sheets.{write_numbers}
 
 -- ripemd_fault's contract for the image i gives the number y
 abbrev pub FaultGives : List ℕ → ℕ → Type 0

@@ -10,9 +10,11 @@ use Rattle.ripemd.specs.declared.State.{State}
 use Rattle.sheet.specs.Sheet.{write_number}
 use Rattle.sheet.specs.Reading.{read_of}
 use Rattle.demands.specs.Numbers.{OneOf}
-use Rattle.demands.specs.Faults.{fault_numbers}
-use Rattle.demands.specs.Demand1.{feed_numbers, finish_numbers, export_numbers, import_numbers, one_shot_numbers}
-use Rattle.demands.specs.Sheets.{write_numbers, read_numbers}
+use Rattle.demands.proofs.Faults.{fault_numbers}
+use Rattle.demands.specs.Demand1.{import_numbers, one_shot_numbers}
+use Rattle.demands.proofs.Demand1.{feed_numbers, finish_numbers, export_numbers}
+use Rattle.demands.specs.Sheets.{read_numbers}
+use Rattle.demands.proofs.Sheets.{write_numbers}
 
 -- fault, feed, finish, export, import, one_shot, write and read
 pub only_these : (s : State) (w : Width) (m o : List ℕ)
