@@ -16,20 +16,23 @@ fail() {
     exit 1
 }
 
+# What rt keeps in a crate's out/ is no change of the crate, and neither is that the folder appears there.
 current() {
-    [ -x "$program" ] && [ -e "$mark" ] && [ -z "$(find "$here/crates.txt" "$here/crates" -newer "$mark" -print -quit)" ]
+    [ -x "$program" ] && [ -e "$mark" ] && [ -z "$(find "$here/crates.txt" "$here/crates" -name out -prune -o \
+        ! \( -type d -path "$here/crates/*" ! -path "$here/crates/*/*" \) -newer "$mark" -print -quit)" ]
 }
 
-# Of what rt says, that a crate is proved; crates.txt names all that the program is made of.
+# Of what rt says, that a crate is proved, which it says of those that have changed; crates.txt names all that the program is made of.
 progress() {
-    local speaker part words total=0 proved=0
+    local speaker word part total=0 proved=0
     for part in $(sed -n "s/^$crate://p" "$here/crates.txt") "$crate"; do
         [ ! -d "$here/crates/$part" ] || total=$((total + 1))
     done
     say "proving and building the program, $total crates: a few minutes, the first time and after a change"
-    while read -r speaker part words; do
-        case "$speaker $words" in
-            "rt: proved"*)
+    while read -r speaker word _; do
+        case $speaker in
+            crate) part=${word%:} ;;
+            logic=proved)
                 proved=$((proved + 1))
                 say "$part proved, $proved of $total"
                 ;;
@@ -51,7 +54,10 @@ build() {
     fi
     # Made before the build, so that a change of the crates during it asks for another.
     touch "$mark.new"
-    (cd "$here" && rt check "$crate") </dev/null 2>&1 | tee "$log" | progress || fail "the program could not be built; $log says why"
+    # It also runs the program, on nothing, which is of no use here.
+    (cd "$here/crates/$crate" && rt run) </dev/null 2>&1 >/dev/null | tee "$log" | progress || fail "the program could not be built; $log says why"
+    mkdir -p "$here/target/bin"
+    cp "$here/crates/$crate/out/$crate" "$program"
     mv "$mark.new" "$mark"
 }
 
