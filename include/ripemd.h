@@ -1,6 +1,6 @@
 /*
  * RIPEMD-128, 160, 256 and 320 for C and C++: the calls of libripemd_c.a,
- * which `rt staticlib ripemd_c` proves and writes to target/staticlib. It is
+ * which `tests/library` has proved and writes to target/staticlib. It is
  * x86-64 code. To link it:
  *
  *     cc -Iinclude program.c target/staticlib/libripemd_c.a

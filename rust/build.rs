@@ -18,7 +18,7 @@ fn main() {
         env::var_os("RIPEMD_LIB_DIR").map_or_else(|| "../target/staticlib".into(), PathBuf::from);
     let Ok(archive) = folder.join("libripemd_c.a").canonicalize() else {
         stop(&format!(
-            "no libripemd_c.a in {}: run `rt staticlib ripemd_c` in the repository's root, or set RIPEMD_LIB_DIR",
+            "no libripemd_c.a in {}: run `tests/library` in the repository's root, or set RIPEMD_LIB_DIR",
             folder.display()
         ));
     };

@@ -108,7 +108,7 @@
 //!
 //! # Building
 //!
-//! `rt staticlib ripemd_c` in the repository's root writes the library to `target/staticlib`, where
+//! `tests/library` in the repository's root writes the library to `target/staticlib`, where
 //! the build looks for it; `RIPEMD_LIB_DIR` names another folder. It is x86-64 code.
 #![deny(missing_docs, unsafe_code)]
 
