@@ -16,26 +16,28 @@ fail() {
     exit 1
 }
 
-# What rt keeps in a crate's out/ is no change of the crate, and neither is that the folder appears there.
-current() {
-    [ -x "$program" ] && [ -e "$mark" ] && [ -z "$(find "$here/crates.txt" "$here/crates" -name out -prune -o \
-        ! \( -type d -path "$here/crates/*" ! -path "$here/crates/*/*" \) -newer "$mark" -print -quit)" ]
+# The files and folders that the program is made of; what rt keeps in a crate's out/ is none of them.
+parts() {
+    find "$here/crates.txt" "$here/crates" -name out -prune -o "$@" -print
 }
 
-# Of what rt says, that a crate is proved, which it says of those that have changed; crates.txt names all that the program is made of.
+# The mark has the names that were there when the build began.
+current() {
+    [ -x "$program" ] && [ -e "$mark" ] && [ -z "$(parts -type f -newer "$mark")" ] && [ "$(parts | sort)" = "$(cat "$mark")" ]
+}
+
+# Of what rt says, that a crate is proved, which it says of those that have changed; crates.txt names all that the program is made of, callees first.
 progress() {
-    local speaker word part total=0 proved=0
+    local speaker word part total=0
+    local -A place
     for part in $(sed -n "s/^$crate://p" "$here/crates.txt") "$crate"; do
-        [ ! -d "$here/crates/$part" ] || total=$((total + 1))
+        [ ! -d "$here/crates/$part" ] || place[$part]=$((total += 1))
     done
     say "proving and building the program, $total crates: a few minutes, the first time and after a change"
     while read -r speaker word _; do
         case $speaker in
             crate) part=${word%:} ;;
-            logic=proved)
-                proved=$((proved + 1))
-                say "$part proved, $proved of $total"
-                ;;
+            logic=proved) say "$part proved, ${place[$part]:-$total} of $total" ;;
         esac
     done
 }
@@ -53,11 +55,13 @@ build() {
         return
     fi
     # Made before the build, so that a change of the crates during it asks for another.
-    touch "$mark.new"
+    parts | sort >"$mark.new"
     # It also runs the program, on nothing, which is of no use here.
     (cd "$here/crates/$crate" && rt run) </dev/null 2>&1 >/dev/null | tee "$log" | progress || fail "the program could not be built; $log says why"
+    # By a name that appears whole: a call of before may be running the program that is there.
     mkdir -p "$here/target/bin"
-    cp "$here/crates/$crate/out/$crate" "$program"
+    cp "$here/crates/$crate/out/$crate" "$program.new"
+    mv "$program.new" "$program"
     mv "$mark.new" "$mark"
 }
 

@@ -1,2 +1,2 @@
-// The three demands and the scope's table T1 to T13, as theorems of specs/ over the library's definitions. No code.
+// The three demands and the scope's table T1 to T13, as theorems over the library's definitions, in specs/ and proofs/. No code.
 #![tactic(auto)]
