@@ -18,12 +18,12 @@ fail() {
 
 # The files and folders that the program is made of; what rt keeps in a crate's out/ is none of them.
 parts() {
-    find "$here/crates.txt" "$here/crates" -name out -prune -o "$@" -print
+    (cd "$here" && find crates.txt crates -name out -prune -o "$@" -print | LC_ALL=C sort)
 }
 
 # The mark has the names that were there when the build began.
 current() {
-    [ -x "$program" ] && [ -e "$mark" ] && [ -z "$(parts -type f -newer "$mark")" ] && [ "$(parts | sort)" = "$(cat "$mark")" ]
+    [ -x "$program" ] && [ -e "$mark" ] && [ -z "$(parts -type f -newer "$mark")" ] && [ "$(parts)" = "$(cat "$mark")" ]
 }
 
 # Of what rt says, that a crate is proved, which it says of those that have changed; crates.txt names all that the program is made of, callees first.
@@ -55,7 +55,7 @@ build() {
         return
     fi
     # Made before the build, so that a change of the crates during it asks for another.
-    parts | sort >"$mark.new"
+    parts >"$mark.new"
     # It also runs the program, on nothing, which is of no use here.
     (cd "$here/crates/$crate" && rt run) </dev/null 2>&1 >/dev/null | tee "$log" | progress || fail "the program could not be built; $log says why"
     # By a name that appears whole: a call of before may be running the program that is there.

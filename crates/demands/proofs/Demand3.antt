@@ -1,5 +1,4 @@
--- DEMAND 3, the theorems. Cut a message anywhere, empty pieces allowed; export and import wherever the bytes so far are a multiple of 64, write a
--- sheet and read it anywhere; calls that are refused in between, and finishing, count as not made. The digest is that of the whole message.
+-- DEMAND 3, of every state that is reached: from a fresh one, and from any record or sheet that is accepted.
 -- Assumes nothing.
 use Rattle.std.specs.Prelude.{ℕ, ◌+◌, ◌*◌, ◌/◌, ◌%◌, ◌^◌, ◌<◌, ◌≤◌, ◌≡◌, List, [], ◌∷◌, ◌++◌, length}
 use Rattle.std.proofs.Math.Path.{refl, sym, ap}

@@ -107,12 +107,10 @@ module _ (s₀ : State) (k₀ : Sound s₀) where
 
 -- ---- from words h that c blocks made
 module _ (w : Width) (h : List ℕ) (c : ℕ) (k₀ : Sound (between w h c)) {m : List ℕ} {s : State} (r : Reach (between w h c) m s) where
-  k : Held (between w h c) m s
-  k = held (between w h c) k₀ r
-
   -- the state is well formed, and its count and fill follow from the bytes taken
   pub chain_state : (fault_of s ≡ 0) × (s.count.0 ≡ c + length m / 64) × (s.fill ≡ length m % 64) × (64 * c + length m < 2 ^ 61)
   chain_state =
+      let k = held (between w h c) k₀ r in
       let f = k.sound.well.fill in
       let b = k.taken in
       let z = k.room in

@@ -1,6 +1,7 @@
 -- DEMAND 1. Each call gives the scope's numbers exactly where the scope says, in its order, and no other. A refused call hands back the
 -- state that it got (a refused import: a fresh one of the width asked) and every byte of its output as it was.
 -- That every call ends and is defined for all input is what the prover says of each function without a `requires`.
+-- The numbers of feed, finish and export, which rest on a state's faults, are in proofs/Demand1.antt, and what numbers there are in proofs/Listed.antt.
 -- Assumes nothing.
 use Rattle.std.specs.Prelude.{ℕ, ◌^◌, ◌≤◌, ◌≡◌, refl, List, [], ◌∷◌, length, replicate}
 use Rattle.std.proofs.Common.{arith}

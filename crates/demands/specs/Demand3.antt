@@ -1,5 +1,5 @@
 -- DEMAND 3. Cut a message anywhere, empty pieces allowed; export and import wherever the bytes so far are a multiple of 64, write a sheet and
--- read it anywhere; calls that are refused in between, and finishing, count as not made. The digest is that of the whole message.
+-- read it anywhere; calls that are refused in between, and finishing, count as not made. The digest is that of the whole message: theorems in proofs/Demand3.antt.
 -- Assumes nothing.
 use Rattle.std.specs.Prelude.{ℕ, ◌≡◌, List, [], ◌∷◌, ◌++◌, length}
 use Rattle.std.proofs.Math.Path.{refl, ap}
@@ -35,20 +35,23 @@ pub data Reach (s₀ : State) : List ℕ → State → Type 0 where
   -- a sheet that was written was read
   on_paper : (m o : List ℕ) (s : State) → Reach s₀ m s → write_number s (length o) ≡ 0 → Reach s₀ m (read_of (write_bytes s o)).state
 
--- ---- any cut of a message of bytes, fewer than 2^61, is reached, so that these theorems are not of nothing
+-- a state after pieces that are fed one after another
 abbrev pub feed_all : State → List (List ℕ) → State
 feed_all s [] = s
 feed_all s (p ∷ ps) = feed_all (feed_of s p).state ps
 
+-- the message that pieces make
 abbrev pub joined : List (List ℕ) → List ℕ
 joined [] = []
 joined (p ∷ ps) = p ++ joined ps
 
 -- ---- from any record r, of bytes, that import accepts
 module _ (w : Width) (r : List ℕ) (b : Below 256 r) (ok : (import_of w r).number ≡ 0) where
+  -- import takes it
   pub good : Importable w r
   good = import_zero w r ok
 
+  -- and makes the state of its words and count
   pub is : (import_of w r).state ≡ between w (words_in w r) (count_in w r)
   is = ap (λ (i : Imported). i.state) (import_takes w r good)
 

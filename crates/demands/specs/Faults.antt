@@ -1,4 +1,5 @@
--- WHAT IS WRONG WITH A STATE: the five faults, each with its number, exactly; and the index that goes with two of them.
+-- WHAT IS WRONG WITH A STATE: the five faults, each with its number, exactly; and the index that goes with two of
+-- them. That fault and the calls on a state answer so: proofs/Faults.antt, Demand1.antt and Sheets.antt.
 -- Assumes nothing.
 use Rattle.std.specs.Prelude.{ℕ, ◌^◌, ◌≤◌, ◌≡◌, List, [], ◌∷◌, ◌↔◌}
 use Rattle.compress.specs.Block.{used_of, initial_of}

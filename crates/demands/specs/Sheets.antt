@@ -1,4 +1,5 @@
 -- THE STATE SHEET. Numbers and place of write and read, exactly, as demand 1 has them of the other calls; and a state and its sheet, one for one.
+-- The numbers of write and the place are in proofs/Sheets.antt.
 -- Assumes nothing.
 use Rattle.std.specs.Prelude.{ℕ, ◌-◌, ◌^◌, ◌≤◌, ◌≡◌, true, false, not, List, [], ◌∷◌, length, drop, replicate}
 use Rattle.std.proofs.Common.{ap, sym, ◌∙◌, true≢false, ⊎_elim, arith, ne_eqb, length-drop}

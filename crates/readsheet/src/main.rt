@@ -104,6 +104,7 @@ fn read_some(k: Kept, mut input: Stdin) -> Turn
     let mut buffer = [0u8; 256];
     let got = match input.read(&mut buffer) {
         Ok(n) => n as isize,
+        // Whatever the reason.
         Err(_) => -1,
     };
     after_read(k, got, &buffer)

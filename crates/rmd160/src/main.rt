@@ -83,6 +83,7 @@ fn read_some(s: State, mut input: Stdin) -> Turn
     let mut buffer = [0u8; 4096];
     let got = match input.read(&mut buffer) {
         Ok(n) => n as isize,
+        // Whatever the reason.
         Err(_) => -1,
     };
     after_read(s, got, &buffer)
