@@ -1,25 +1,27 @@
 // Lines of a key and a value.
 use ripemd::{State, Width};
 use std::io;
+use text::Text;
 
-pub fn number(rt: &impl Print, key: &[u8], x: u64) -> io::Result<()> {
-    let mut out = [0u8; 128];
-    let a = text::bytes(&mut out, 0, key);
-    let b = text::decimal(&mut out, a, x);
-    let n = text::bytes(&mut out, b, b"\n");
-    rt.write_all(text::first(&out, n))
+fn line(rt: &impl Print, key: &[u8], value: &Text<80>) -> io::Result<()> {
+    let mut line: Text<128> = Text::new();
+    line.bytes(key);
+    line.bytes(value.as_bytes());
+    line.bytes(b"\n");
+    rt.write_all(line.as_bytes())
 }
 
-fn hex(rt: &impl Print, key: &[u8], bytes: &[u8]) -> io::Result<()> {
-    let mut out = [0u8; 128];
-    let a = text::bytes(&mut out, 0, key);
-    let b = text::hex(&mut out, a, bytes);
-    let n = text::bytes(&mut out, b, b"\n");
-    rt.write_all(text::first(&out, n))
+// A line with a number.
+pub fn number(rt: &impl Print, key: &[u8], x: u64) -> io::Result<()> {
+    let mut value = Text::new();
+    value.decimal(x);
+    line(rt, key, &value)
 }
 
 pub fn digest(rt: &impl Print, w: Width, key: &[u8], s: State) -> io::Result<()> {
     let mut out = [0u8; 40];
-    front::finish(s, &mut out);
-    hex(rt, key, text::first(&out, front::digest_length(w)))
+    let _ = front::finish(s, &mut out);
+    let mut value = Text::new();
+    value.hex(text::first(&out, front::digest_length(w)));
+    line(rt, key, &value)
 }

@@ -3,7 +3,10 @@
 use mathlib.Core.Path.{◌≡◌, refl}
 use mathlib.Core.List.{List}
 use Prim.Native.Nat.{ℕ}
+use mathlib.Core.Bool.{Bool, true, false}
 use Rattle.tables.specs.Rule.{count_of}
+use Rattle.tables.specs.declared.Size.{Size}
+use Rattle.tables.specs.declared.Size.TheVariants.{Four, Five}
 use Rattle.lines.specs.Steps.{Pair}
 use Rattle.rounds.specs.Rounds.{rounds_of}
 use Rattle.rounds.specs.Engine.{places_of, names_of}
@@ -28,3 +31,11 @@ pub whole : (w : Width) (h x : List ℕ)
     → combine_of w h (names_of (size_of w) (places_of (size_of w) (all_rounds w x (names_of (size_of w) (places_of (size_of w) (start_of w h)))))) ≡ compress_of w h x
 unfolding compress_of
 whole w h x = rw (names_places (size_of w) (start_of w h), names_places (size_of w) (all_rounds w x (start_of w h)))
+
+-- of a size, whose lines exchange registers or don't
+pub whole_from : (z : Size) (e : Bool) (h x : List ℕ)
+    → combine_of (width_from z e) h (names_of z (places_of z (rounds_of z e x (count_of z) (names_of z (places_of z (start_of (width_from z e) h)))))) ≡ compress_of (width_from z e) h x
+whole_from Four false h x = whole W128 h x
+whole_from Five false h x = whole W160 h x
+whole_from Four true h x = whole W256 h x
+whole_from Five true h x = whole W320 h x

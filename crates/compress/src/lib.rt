@@ -1,30 +1,30 @@
 // One block at any width, on ten words: the paper's compression function.
 #![tactic(auto)]
 
-mod c128;
-mod c160;
-mod c256;
-mod c320;
-
-ghost use Rattle.std.specs.Prelude.{◌≡◌, ◌*◌, ◌≤◌, length};
-ghost use Rattle.words.specs.Words.{add_of, same_of};
+ghost use Rattle.std.specs.Prelude.{◌≡◌, ◌/◌, ◌≤◌, true, false, length};
+ghost use Rattle.words.specs.Words.{same_of};
 ghost use Rattle.words.specs.Bytes.{words_of};
 ghost use Rattle.tables.specs.Rule.{Constants};
 ghost use Rattle.tables.specs.declared.Line.TheVariants.{Left, Right};
-ghost use Rattle.rounds.specs.Engine.{places_of, names_of};
+ghost use Rattle.rounds.specs.Engine.{places_of, names_of, size_if};
 ghost use Rattle.compress.specs.Engine.{width_from};
 ghost use Rattle.compress.specs.Block.{used_of, size_of, initial_of, start_of, exchanges_of, combine_of, compress_of, blocks_of};
 
-use lines::Both;
+use lines::{Both, LineTables};
 use tables::{Line, Size};
 
 // In the order of their numbers in the C face's image, so that it takes no table to read one.
-#[derive(Clone, Copy)]
+#[derive(Clone, Copy, PartialEq, Eq, Debug)]
 pub enum Width {
     W160,
     W320,
     W128,
     W256,
+}
+
+impl Width {
+    // In the order in which they are tried and listed.
+    pub const ALL: [Width; 4] = [Width::W128, Width::W160, Width::W256, Width::W320];
 }
 
 // How many of the ten words a width uses.
@@ -51,28 +51,76 @@ fn size(w: Width) -> Size
     }
 }
 
+const H128: [u32; 10] = [
+    0x6745_2301,
+    0xefcd_ab89,
+    0x98ba_dcfe,
+    0x1032_5476,
+    0,
+    0,
+    0,
+    0,
+    0,
+    0,
+];
+
+const H160: [u32; 10] = [
+    0x6745_2301,
+    0xefcd_ab89,
+    0x98ba_dcfe,
+    0x1032_5476,
+    0xc3d2_e1f0,
+    0,
+    0,
+    0,
+    0,
+    0,
+];
+
+const H256: [u32; 10] = [
+    0x6745_2301,
+    0xefcd_ab89,
+    0x98ba_dcfe,
+    0x1032_5476,
+    0x7654_3210,
+    0xfedc_ba98,
+    0x89ab_cdef,
+    0x0123_4567,
+    0,
+    0,
+];
+
+const H320: [u32; 10] = [
+    0x6745_2301,
+    0xefcd_ab89,
+    0x98ba_dcfe,
+    0x1032_5476,
+    0xc3d2_e1f0,
+    0x7654_3210,
+    0xfedc_ba98,
+    0x89ab_cdef,
+    0x0123_4567,
+    0x3c2d_1e0f,
+];
+
 // The words from which a message starts.
 pub fn initial(w: Width) -> [u32; 10]
     ensures { result ≡ initial_of w }
 {
     match w {
-        Width::W128 => c128::H0,
-        Width::W160 => c160::H0,
-        Width::W256 => c256::H0,
-        Width::W320 => c320::H0,
+        Width::W128 => H128,
+        Width::W160 => H160,
+        Width::W256 => H256,
+        Width::W320 => H320,
     }
 }
 
-// Whether a message starts from the words h. A case for each width and two callers keep LLVM from inlining it: docs/DECISIONS.md has why.
+// Whether a message starts from the words h. Inlined, it would make a state's test too large for its callers: docs/DECISIONS.md has why.
+#[inline(never)]
 pub fn is_initial(w: Width, h: &[u32; 10]) -> bool
     ensures { result ≡ same_of h.now (initial_of w) }
 {
-    match w {
-        Width::W128 => words::same(h, &c128::H0),
-        Width::W160 => words::same(h, &c160::H0),
-        Width::W256 => words::same(h, &c256::H0),
-        Width::W320 => words::same(h, &c320::H0),
-    }
+    *h == initial(w)
 }
 
 // Whether the lines exchange a register after each round.
@@ -87,67 +135,109 @@ fn exchanges(w: Width) -> bool
     }
 }
 
-// Where the lines start. A size and an exchange tell the width, and the rounds are chosen by the same two: so the compiler parts the sizes here,
-// and joins them behind `combine`.
+// Where the lines start: from the same words, or each from words of its own. Written out for each width: a function of the size and the first
+// word's place takes a block 2 % longer (docs/DECISIONS.md).
 fn start(z: Size, exchanging: bool, h: [u32; 10]) -> Both
     ensures { result ≡ places_of z (start_of (width_from z exchanging) h) }
 {
     match z {
         Size::Four => if exchanging {
-            c256::start(h)
+            Both {
+                left: [h[0], h[1], h[2], h[3], 0],
+                right: [h[4], h[5], h[6], h[7], 0],
+            }
         } else {
-            c128::start(h)
+            let v = [h[0], h[1], h[2], h[3], 0];
+            Both { left: v, right: v }
         },
         Size::Five => if exchanging {
-            c320::start(h)
+            Both {
+                left: [h[0], h[1], h[2], h[3], h[4]],
+                right: [h[5], h[6], h[7], h[8], h[9]],
+            }
         } else {
-            c160::start(h)
+            let v = [h[0], h[1], h[2], h[3], h[4]];
+            Both { left: v, right: v }
         },
     }
 }
 
-// Three words of a combination.
-fn sum(x: u32, y: u32, z: u32) -> u32
-    ensures { result ≡ add_of (add_of x y) z }
+// The new words of lines that started from the same, all from the old h: word 0 is made of the old h1, as the paper's T is.
+fn combine_crossed(z: Size, h: [u32; 10], p: Both) -> [u32; 10]
+    ensures { result ≡ combine_of (width_from z false) h (names_of z p) }
 {
-    words::add(words::add(x, y), z)
+    let n = tables::count(z);
+    let l = p.left;
+    let r = p.right;
+    let mut new = [0u32; 10];
+    for i in 0..n {
+        new[i] = h[(i + 1) % n]
+            .wrapping_add(l[(i + 2) % n])
+            .wrapping_add(r[(i + 3) % n]);
+    }
+    new
 }
 
-fn combine(z: Size, exchanging: bool, h: [u32; 10], p: Both) -> [u32; 10]
-    ensures { result ≡ combine_of (width_from z exchanging) h (names_of z p) }
+// Each line is added to the words that it started from.
+fn combine_own(z: Size, h: [u32; 10], p: Both) -> [u32; 10]
+    ensures { result ≡ combine_of (width_from z true) h (names_of z p) }
 {
-    match z {
-        Size::Four => if exchanging {
-            c256::combine(h, p)
-        } else {
-            c128::combine(h, p)
-        },
-        Size::Five => if exchanging {
-            c320::combine(h, p)
-        } else {
-            c160::combine(h, p)
-        },
+    let n = tables::count(z);
+    let l = p.left;
+    let r = p.right;
+    let mut new = [0u32; 10];
+    for i in 0..n {
+        new[i] = h[i].wrapping_add(l[i]);
+        new[n + i] = h[n + i].wrapping_add(r[i]);
+    }
+    new
+}
+
+// The words after one block, from the words before it and those of the block.
+fn all_rounds<const FIVE: bool>(
+    exchanging: bool,
+    h: [u32; 10],
+    x: &[u32; 16],
+    t: LineTables,
+) -> [u32; 10]
+    ensures { result ≡ compress_of (width_from (size_if FIVE) exchanging) h x.now }
+{
+    let z = rounds::size::<FIVE>();
+    let p = start(z, exchanging, h);
+    let q = rounds::rounds::<FIVE>(exchanging, p, x, t);
+    if exchanging {
+        combine_own(z, h, q)
+    } else {
+        combine_crossed(z, h, q)
     }
 }
 
-// h after one block. The constants are lent and the function has two callers, so that LLVM does not see them here.
+// h after one block. The constants are lent and the function has two callers, so that LLVM does not see them here. Each arm has an instance of
+// its own, so that LLVM parts the sizes once.
 fn one_block(w: Width, h: &mut [u32; 10], block: &[u8], k: &[u32; 5], k2: &[u32; 5])
     requires block_length { length block.now ≡ 64 }
     requires left_constants { Constants Left k.now }
     requires right_constants { Constants Right k2.now }
     ensures { h.new ≡ compress_of w h.old (words_of 16 block.now) }
 {
-    let x = words::bytes::message_words(block);
+    let x = words::bytes::get_words::<16>(block, 16);
     let r = tables::order::table(Line::Left);
     let s = tables::shift::table(Line::Left);
     let r2 = tables::order::table(Line::Right);
     let s2 = tables::shift::table(Line::Right);
-    let old = *h;
-    let z = size(w);
+    let t = LineTables {
+        r: &r,
+        s: &s,
+        k: k,
+        r2: &r2,
+        s2: &s2,
+        k2: k2,
+    };
     let exchanging = exchanges(w);
-    let p = start(z, exchanging, old);
-    let q = rounds::rounds(z, exchanging, p, &x, &r, &s, k, &r2, &s2, k2);
-    *h = combine(z, exchanging, old, q);
+    *h = match size(w) {
+        Size::Four => all_rounds::<false>(exchanging, *h, &x, t),
+        Size::Five => all_rounds::<true>(exchanging, *h, &x, t),
+    };
 }
 
 // One block of 64 bytes: h is the words before it, and then after it. Words that the width doesn't use come out zero.
@@ -160,18 +250,13 @@ pub fn compress(w: Width, h: &mut [u32; 10], block: &[u8])
     one_block(w, h, block, &k, &k2);
 }
 
-// The first n blocks of s.
-pub fn compress_blocks(w: Width, h: &mut [u32; 10], s: &[u8], n: usize)
-    requires { 64 * n ≤ length s.now }
-    ensures { h.new ≡ blocks_of w h.old s.now n }
+// The blocks of s; the bytes behind the last whole one are left.
+pub fn compress_blocks(w: Width, h: &mut [u32; 10], s: &[u8])
+    ensures { h.new ≡ blocks_of w h.old s.now (length s.now / 64) }
 {
     let k = tables::constants(Line::Left);
     let k2 = tables::constants(Line::Right);
-    let mut i = 0;
-    while i < n {
-        let from = 64 * i;
-        let to = from + 64;
-        one_block(w, h, &s[from..to], &k, &k2);
-        i += 1;
+    for block in s.chunks_exact(64) {
+        one_block(w, h, block, &k, &k2);
     }
 }

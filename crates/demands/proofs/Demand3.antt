@@ -3,7 +3,6 @@
 use Rattle.std.specs.Prelude.{ℕ, ◌+◌, ◌*◌, ◌/◌, ◌%◌, ◌^◌, ◌<◌, ◌≤◌, ◌≡◌, List, [], ◌∷◌, ◌++◌, length}
 use Rattle.std.proofs.Math.Path.{refl, sym, ap}
 use Rattle.std.proofs.Common.{◌∙◌, subst, append-nil, append_assoc, arith, lit<, length-append}
-use Rattle.std.proofs.Math.Seq.{take-length}
 use Rattle.words.specs.Bytes.{Below}
 use Rattle.words.proofs.Numbers.{below_parts}
 use Rattle.compress.specs.Block.{initial_of}
@@ -14,7 +13,7 @@ use Rattle.ripemd.specs.Digest.{digest_length, published, continued}
 use Rattle.ripemd.specs.Finish.{digest_of, finish_number, finish_bytes}
 use Rattle.ripemd.specs.Record.{record_length, words_in, count_in, export_number, export_bytes, import_of}
 use Rattle.ripemd.specs.declared.State.{State}
-use Rattle.ripemd.specs.declared.Fed.{Fed}
+use Rattle.ripemd.specs.Answers.{Fed}
 use Rattle.ripemd.proofs.Zeros.{drop_replicate}
 use Rattle.ripemd.proofs.Pending.{fed_short}
 use Rattle.ripemd.proofs.Cuts.{fed_twice}
@@ -139,7 +138,7 @@ fed_tail : (w : Width) (h : List ℕ) (c : ℕ) (t : List ℕ) → length t < 64
     → fed_state (between w h c) t ≡ moved (between w h c) h c (length t) (as_tail t)
 fed_tail w h c t l =
     let z : 0 + length t ≡ length t = omega arith in
-    sym (fed_short (between w h c) t refl (lit< tt) refl (omega arith)) ∙ rw (z, take-length t, drop_replicate 64 (length t))
+    sym (fed_short (between w h c) t refl (lit< tt) refl (omega arith)) ∙ rw (z, drop_replicate 64 (length t))
 
 module _ (l : List ℕ) (ok : (read_of l).number ≡ 0) (k : Shaped l) where
   abbrev h₀ : List ℕ

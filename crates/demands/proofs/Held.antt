@@ -10,8 +10,8 @@ use Rattle.ripemd.specs.State.{taken_of, fault_of, between, moved}
 use Rattle.ripemd.specs.Feed.{fed_state, feed_of}
 use Rattle.ripemd.specs.Record.{record_of, export_number, export_bytes, import_of}
 use Rattle.ripemd.specs.declared.State.{State}
-use Rattle.ripemd.specs.declared.Fed.{Fed}
-use Rattle.ripemd.specs.declared.Imported.{Imported}
+use Rattle.ripemd.specs.Answers.{Fed}
+use Rattle.ripemd.specs.Answers.{Imported}
 use Rattle.ripemd.proofs.Pending.{fed_short}
 use Rattle.ripemd.proofs.Cuts.{fed_twice}
 use Rattle.ripemd.proofs.Outcomes.{accepted}
@@ -20,7 +20,7 @@ use Rattle.ripemd.proofs.Calls.{feed_takes, feed_long, export_full}
 use Rattle.ripemd.proofs.Resumed.{import_export}
 use Rattle.sheet.specs.Sheet.{write_number, write_bytes}
 use Rattle.sheet.specs.Reading.{read_of}
-use Rattle.sheet.specs.declared.Readout.{Readout}
+use Rattle.sheet.specs.Answers.{Readout}
 use Rattle.sheet.proofs.Again.{read_sheet}
 use Rattle.demands.specs.Demand1.{feed_refused}
 use Rattle.demands.specs.Sheets.{write_done}

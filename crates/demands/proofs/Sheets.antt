@@ -7,7 +7,7 @@ use Rattle.ripemd.specs.declared.State.{State}
 use Rattle.shape.specs.Shape.{reach}
 use Rattle.sheet.specs.Sheet.{Begins, sheet_of, write_number}
 use Rattle.sheet.specs.Reading.{sheet_shape, read_of}
-use Rattle.sheet.specs.declared.Readout.{Readout}
+use Rattle.sheet.specs.Answers.{Readout}
 use Rattle.sheet.proofs.Answers.{read_wrong}
 use Rattle.sheet.proofs.Places.{shaped_or_not, begins, longest}
 use Rattle.demands.specs.Numbers.{number, nothing, no_row}

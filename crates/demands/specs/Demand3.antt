@@ -11,7 +11,7 @@ use Rattle.ripemd.specs.State.{between, fresh_of}
 use Rattle.ripemd.specs.Feed.{feed_of}
 use Rattle.ripemd.specs.Record.{record_length, record_of, words_in, count_in, export_number, export_bytes, import_of}
 use Rattle.ripemd.specs.declared.State.{State}
-use Rattle.ripemd.specs.declared.Imported.{Imported}
+use Rattle.ripemd.specs.Answers.{Imported}
 use Rattle.ripemd.proofs.Outcomes.{accepted}
 use Rattle.ripemd.proofs.Kept.{sound_fine}
 use Rattle.ripemd.proofs.Calls.{export_right}

@@ -4,7 +4,7 @@
 use Rattle.std.specs.Prelude.{ℕ, ◌^◌, ◌≤◌, ◌≡◌, List, [], ◌∷◌, ◌↔◌}
 use Rattle.compress.specs.Block.{used_of, initial_of}
 use Rattle.ripemd.specs.State.{WellFormed, fault_of}
-use Rattle.ripemd.specs.declared.Answer.{Answer}
+use Rattle.ripemd.specs.Answers.{Answer}
 use Rattle.ripemd.specs.declared.State.{State}
 use Rattle.ripemd.proofs.Well.{well, no_fault}
 use Rattle.demands.specs.Numbers.{number, OneOf, Given}

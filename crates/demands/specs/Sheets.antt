@@ -16,7 +16,7 @@ use Rattle.ripemd.proofs.Outcomes.{accepted, refused}
 use Rattle.ripemd.proofs.Kept.{Sound}
 use Rattle.sheet.specs.Sheet.{Shaped, sheet_of, length_of, write_number, write_bytes}
 use Rattle.sheet.specs.Reading.{is_sheet, state_with, state_in, held_rows, read_number, read_of}
-use Rattle.sheet.specs.declared.Readout.{Readout}
+use Rattle.sheet.specs.Answers.{Readout}
 use Rattle.sheet.proofs.Written.{length_is}
 use Rattle.sheet.proofs.Places.{shaped_or_not}
 use Rattle.sheet.proofs.Again.{state_in_lem, read_sheet, accepted_sheet}

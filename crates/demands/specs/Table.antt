@@ -17,8 +17,8 @@ use Rattle.ripemd.specs.Feed.{feed_number, feed_of, fed_state}
 use Rattle.ripemd.specs.Finish.{pad_count, pad_of}
 use Rattle.ripemd.specs.Record.{record_length, record_of, words_in, count_in, export_number, import_number, import_of}
 use Rattle.ripemd.specs.declared.State.{State}
-use Rattle.ripemd.specs.declared.Fed.{Fed}
-use Rattle.ripemd.specs.declared.Imported.{Imported}
+use Rattle.ripemd.specs.Answers.{Fed}
+use Rattle.ripemd.specs.Answers.{Imported}
 use Rattle.ripemd.proofs.Calls.{feed_takes, feed_long}
 use Rattle.ripemd.proofs.Kept.{sound_fine, fresh_sound, fed_taken}
 use Rattle.ripemd.proofs.Resumed.{Importable, import_takes, import_sound}

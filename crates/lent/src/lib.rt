@@ -3,30 +3,33 @@
 
 ghost use Rattle.std.specs.Prelude.{◌≡◌};
 ghost use Rattle.ripemd.specs.Feed.{feed_of, answered};
+ghost use Rattle.ripemd.specs.Answers.{told, fed};
 
-use ripemd::{Answer, Fed, State};
+use ripemd::{Refusal, Refused, State};
 
-// Number and index, and the state changed where it lies; a refused piece leaves it as it was.
-pub fn feed_lent(s: &mut State, piece: &[u8]) -> Answer
-    ensures { (result ≡ answered (feed_of s.old piece.now)) × (s.new ≡ (feed_of s.old piece.now).state) }
+// The state is changed where it lies; a refused piece leaves it as it was.
+pub fn feed_lent(s: &mut State, piece: &[u8]) -> Result<(), Refusal>
+    ensures { (told result ≡ answered (feed_of s.old piece.now)) × (s.new ≡ (feed_of s.old piece.now).state) }
 {
-    let f = ripemd::feed(*s, piece);
-    *s = f.state;
-    Answer {
-        number: f.number,
-        index: f.index,
+    match ripemd::feed(*s, piece) {
+        Ok(t) => {
+            *s = t;
+            Ok(())
+        }
+        Err(r) => {
+            *s = r.state;
+            Err(r.refusal)
+        }
     }
 }
 
 // A state of one's own is lent: for callers that have no reference to a state, so that their proofs walk none.
-pub fn feed_own(s: State, piece: &[u8]) -> Fed
-    ensures { result ≡ feed_of s piece.now }
+pub fn feed_own(s: State, piece: &[u8]) -> Result<State, Refused<Refusal>>
+    ensures { fed result ≡ feed_of s piece.now }
 {
     let mut t = s;
-    let a = feed_lent(&mut t, piece);
-    Fed {
-        number: a.number,
-        state: t,
-        index: a.index,
+    match feed_lent(&mut t, piece) {
+        Ok(()) => Ok(t),
+        Err(refusal) => Err(Refused { refusal, state: t }),
     }
 }

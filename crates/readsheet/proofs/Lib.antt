@@ -1,5 +1,2 @@
-pub mod Feeds
-pub mod Numbers
-pub mod Turns
-pub mod Taken
+pub mod Kept
 pub mod Whole

@@ -1,19 +1,16 @@
 -- What the program writes: one line.
 -- Assumes nothing.
-use Rattle.std.specs.Prelude.{ℕ, suc, cond, List, [], ◌∷◌, ◌++◌, eqb, take}
+use Rattle.std.specs.Prelude.{ℕ, suc, cond, List, ◌++◌, count_by, eqb, take, Result, Ok, Err}
 use Rattle.ripemd.specs.State.{taken_of}
 use Rattle.ripemd.specs.declared.State.{State}
 use Rattle.text.specs.Text.{ascii, decimal_of}
 use Rattle.sheet.specs.Sheet.{name_of}
 use Rattle.sheet.specs.Reading.{read_of}
-use Rattle.sheet.specs.declared.Readout.{Readout}
-use Rattle.readsheet.specs.declared.Ending.{Ending}
-use Rattle.readsheet.specs.declared.Ending.TheVariants.{Done, Failed}
+use Rattle.sheet.specs.Answers.{Readout}
 
 -- how many line feeds a text has
 unfoldable pub feeds_of : List ℕ → ℕ
-feeds_of [] = 0
-feeds_of (x ∷ l) = cond (eqb x 10) (suc (feeds_of l)) (feeds_of l)
+feeds_of l = count_by (λ x. eqb x 10) l
 
 -- the line, counted from 1, of the byte at a place: one more than the line feeds before it
 unfoldable pub line_at : ℕ → List ℕ → ℕ
@@ -44,7 +41,15 @@ line_for l r =
 abbrev pub read_line : List ℕ → List ℕ
 read_line l = line_for l (read_of l)
 
--- for the message that was read, where reading ended so
-unfoldable pub answer_of : Ending → List ℕ → List ℕ
-answer_of Done m = read_line m
-answer_of Failed m = ascii "error=read\n"
+-- the line for what was read, or that of an error where a read failed
+abbrev pub ended_of : {T E : Type 0} → (T → List ℕ) → Result T E → List ℕ
+ended_of line (Ok x) = line x
+ended_of line (Err _) = ascii "error=read\n"
+
+-- what is written for what reading kept
+abbrev pub written_of : {E : Type 0} → Result (List ℕ) E → List ℕ
+written_of r = ended_of read_line r
+
+-- the same for the message that was read
+unfoldable pub answer_of : {T E : Type 0} → Result T E → List ℕ → List ℕ
+answer_of r m = ended_of (λ _. read_line m) r

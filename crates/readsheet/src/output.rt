@@ -1,18 +1,15 @@
 // What the program writes.
-ghost use Rattle.std.specs.Prelude.{◌≡◌, ◌+◌, ◌*◌, ◌^◌, ◌≤◌, ◌<◌, length, take};
+ghost use Rattle.std.specs.Prelude.{◌≡◌, ◌≤◌, length};
 ghost use Rattle.sheet.specs.Sheet.{name_of};
-ghost use Rattle.readsheet.specs.Lines.{line_at, held_line, place_line, read_line, answer_of};
+ghost use Rattle.readsheet.specs.Lines.{line_at, held_line, place_line, read_line, written_of};
 
-use crate::{Ending, Text};
-use ripemd::{BlockCount, ByteCount, State, Width};
+use crate::Kept;
+use ripemd::{WellFormed, Width};
+use sheet::Misread;
+use std::io;
+use text::Text;
 
-fn bytes_taken(count: BlockCount, fill: usize) -> ByteCount
-    requires { (count.0 < 2 ^ 55) × (fill < 64) }
-    ensures { result.0 ≡ 64 * count.0 + fill }
-{
-    ByteCount(64 * count.0 + fill as u64)
-}
-
+// A table, as the sheet's definition is one: 8 bits times 4 bytes times the words, in decimal, is no plainer.
 fn name(w: Width) -> [u8; 3]
     ensures { result ≡ name_of w }
 {
@@ -25,103 +22,64 @@ fn name(w: Width) -> [u8; 3]
 }
 
 // What a sheet's state has taken.
-fn held(s: State) -> Text
-    requires { (s.count.0 < 2 ^ 55) × (s.fill < 64) }
-    ensures { (result.length ≤ 96) × (take result.length result.bytes ≡ held_line s) }
+fn held(s: WellFormed) -> Text<96>
+    ensures { result ≡ held_line s.entry.state.now }
 {
-    let w = s.width;
-    let width = name(w);
-    let count = s.count;
-    let fill = s.fill;
-    let taken = bytes_taken(count, fill);
-    let blocks = count.0;
-    let rest = fill as u64;
-    let mut out = [0u8; 96];
-    let a = text::bytes(&mut out, 0, b"width=");
-    let b = text::bytes(&mut out, a, &width);
-    let c = text::bytes(&mut out, b, b" bytes=");
-    let d = text::decimal(&mut out, c, taken.0);
-    let e = text::bytes(&mut out, d, b" blocks=");
-    let f = text::decimal(&mut out, e, blocks);
-    let g = text::bytes(&mut out, f, b" fill=");
-    let h = text::decimal(&mut out, g, rest);
-    let i = text::bytes(&mut out, h, b"\n");
-    Text {
-        bytes: out,
-        length: i,
-    }
+    let mut line = Text::new();
+    line.bytes(b"width=");
+    line.bytes(&name(s.state.width));
+    line.bytes(b" bytes=");
+    line.decimal(s.bytes_taken().0);
+    line.bytes(b" blocks=");
+    line.decimal(s.state.count.0);
+    line.bytes(b" fill=");
+    line.decimal(s.state.fill as u64);
+    line.bytes(b"\n");
+    line
 }
 
 // The line, counted from 1, of the byte at the place.
+#[tactic(auto, unfolding(crate::specs::Lines::line_at, crate::specs::Lines::feeds_of))]
 fn line_at(s: &[u8], place: usize) -> u64
     requires { place ≤ length s.now }
     ensures { result ≡ line_at place s.now }
 {
-    let mut line: u64 = 1;
-    let mut j = 0;
-    while j < place {
-        if s[j] == b'\n' {
-            line += 1;
-        }
-        j += 1;
-    }
-    line
+    1 + s[..place].iter().filter(|b| **b == b'\n').count() as u64
 }
 
 // Where a text leaves every sheet.
-fn misshaped(place: u64, line: u64) -> Text
-    ensures { (result.length ≤ 96) × (take result.length result.bytes ≡ place_line place line) }
+fn misshaped(place: u64, line: u64) -> Text<96>
+    ensures { result ≡ place_line place line }
 {
-    let mut out = [0u8; 96];
-    let a = text::bytes(&mut out, 0, b"error=8 place=");
-    let b = text::decimal(&mut out, a, place);
-    let c = text::bytes(&mut out, b, b" line=");
-    let d = text::decimal(&mut out, c, line);
-    let e = text::bytes(&mut out, d, b"\n");
-    Text {
-        bytes: out,
-        length: e,
-    }
-}
-
-fn error(line: &[u8]) -> Text
-    requires { length line.now ≤ 96 }
-    ensures { (result.length ≤ 96) × (take result.length result.bytes ≡ line.now) }
-{
-    let mut out = [0u8; 96];
-    let n = text::bytes(&mut out, 0, line);
-    Text {
-        bytes: out,
-        length: n,
-    }
+    let mut text = Text::new();
+    text.bytes(b"error=8 place=");
+    text.decimal(place);
+    text.bytes(b" line=");
+    text.decimal(line);
+    text.bytes(b"\n");
+    text
 }
 
 // The line for what sheet::read gives.
-fn line_of(sheet: &[u8]) -> Text
-    ensures { (result.length ≤ 96) × (take result.length result.bytes ≡ read_line sheet.now) }
+#[tactic(auto, using(crate::proofs::Whole::read_steps), unfolding(crate::specs::Lines::line_for))]
+fn line_of(sheet: &[u8]) -> Text<96>
+    ensures { result ≡ read_line sheet.now }
 {
-    let r = sheet::read(sheet);
-    let number = r.number;
-    let place = r.place;
-    let s = r.state;
-    if number == 0 {
-        return held(s);
+    match sheet::read(sheet) {
+        Ok(s) => held(WellFormed { state: &s }),
+        Err(r) => match r.refusal {
+            Misread::Shape(place) => misshaped(place as u64, line_at(sheet, place)),
+            Misread::TooMany => Text::of(b"error=5 line=2\n"),
+            Misread::WrongStart => Text::of(b"error=7 line=3\n"),
+        },
     }
-    if number == 8 {
-        let line = line_at(sheet, place);
-        return misshaped(place as u64, line);
-    }
-    if number == 5 {
-        return error(b"error=5 line=2\n");
-    }
-    error(b"error=7 line=3\n")
 }
 
-pub(crate) fn written(e: Ending, sheet: &[u8]) -> Text
-    ensures { (result.length ≤ 96) × (take result.length result.bytes ≡ answer_of e sheet.now) }
+pub(crate) fn written(read: io::Result<Kept>) -> Text<96>
+    ensures { result ≡ written_of read }
 {
-    match e {
-        Ending::Done => line_of(sheet),
-        Ending::Failed => error(b"error=read\n"),
+    match read {
+        Ok(sheet) => line_of(sheet.as_bytes()),
+        Err(_) => Text::of(b"error=read\n"),
     }
 }

@@ -1,32 +1,13 @@
 -- Where the first number from a place on stands that isn't zero.
 -- Assumes nothing.
-use Prim.Native.Nat.{ℕ, zero, suc, ◌+◌, ◌-◌, ◌≤◌, ◌<◌}
-use mathlib.Core.Path.{◌≡◌, refl, ap, sym, ◌∙◌}
-use mathlib.Core.List.{List, [], ◌∷◌}
-use mathlib.Core.Bool.{Bool, true, false, cond, ◌&&◌, true≢false}
-use native.Mathlib.Omega.{arith}
-use native.Mathlib.Numerals.{add-one}
-use borrow.Author.Tests.{eqb-true, eqb-false, eq-eqb, ne_eqb}
-use lib.Dec.{eqb}
-use lib.ListN.{length, get_or, drop, length-drop, drop_of_length-le}
-use lib.Seq.{drop-cons, get_or-drop}
+use Rattle.std.proofs.Common.{ℕ, ◌+◌, ◌-◌, ◌≤◌, ◌<◌, ◌≡◌, refl, ap, sym, ◌∙◌, arith, Bool, true, false, cond, ◌&&◌, true≢false, List, [], ◌∷◌, length, get_or, take, drop, eqb, take_all}
+use Prim.Native.Nat.{zero, suc}
+use borrow.Author.Tests.{eqb-true, eqb-false}
+use lib.ListN.{length-drop}
+use lib.Seq.{get_or-drop}
+use Rattle.std.specs.List.{prefix_len}
 use Rattle.ripemd.specs.State.{zeros, zeros_before, lowest_of}
 
--- ---- a step of the search
-module _ (l : List ℕ) (i : ℕ) where
-  pub lowest_here : i < length l → (get_or l i 0 ≡ 0 → ⊥) → lowest_of l i ≡ i
-  unfolding lowest_of
-  lowest_here h n = rw (drop-cons l i 0, ne_eqb (get_or l i 0) 0 n) (omega arith)
-
-  pub lowest_on : i < length l → get_or l i 0 ≡ 0 → lowest_of l i ≡ lowest_of l (i + 1)
-  unfolding lowest_of
-  lowest_on h e = rw (add-one, drop-cons l i 0, eq-eqb (get_or l i 0) 0 e) (omega arith)
-
-  pub lowest_end : length l ≤ i → lowest_of l i ≡ i
-  unfolding lowest_of
-  lowest_end h = rw (drop_of_length-le l h) (omega arith)
-
--- ---- what it finds
 -- a number that isn't zero, where there is one
 before_is : (l : List ℕ) → zeros l ≡ false → (zeros_before l < length l) × (get_or l (zeros_before l) 0 ≡ 0 → ⊥)
 before_is [] e = absurd (true≢false e)
@@ -64,3 +45,51 @@ module _ (l : List ℕ) (from : ℕ) where
   lowest_before j a b =
       let e : j ≡ from + (j - from) = omega arith in
       ap (λ (i : ℕ). get_or l i 0) e ∙ sym (get_or-drop from l (j - from) 0) ∙ before_zero (drop from l) (j - from) (omega arith)
+
+-- ---- the zeros in front, as a count of them gives it
+in_front : (l : List ℕ) → zeros_before l ≡ prefix_len (λ x. eqb x 0) l
+in_front [] = refl
+in_front (x ∷ l) = by_test (eqb x 0) (in_front l)
+  where
+    by_test : (b : Bool) → zeros_before l ≡ prefix_len (λ y. eqb y 0) l → cond b (suc (zeros_before l)) 0 ≡ cond b (1 + prefix_len (λ y. eqb y 0) l) 0
+    by_test true e = omega (arith, e)
+    by_test false e = refl
+
+all_before : (l : List ℕ) → zeros l ≡ true → zeros_before l ≡ length l
+all_before [] e = refl
+all_before (x ∷ l) e = by_test (eqb x 0) (all_before l) e
+  where
+    by_test : (b : Bool) → (zeros l ≡ true → zeros_before l ≡ length l) → (b && zeros l) ≡ true → cond b (suc (zeros_before l)) 0 ≡ suc (length l)
+    by_test true rest z = ap suc (rest z)
+    by_test false rest z = absurd (true≢false (sym z))
+
+-- behind a place, as a slice from there on holds the numbers
+module _ (n : ℕ) (all : List ℕ) where
+  abbrev pub after : List ℕ
+  after = take (length all - n) (drop n all)
+
+  after_is : after ≡ drop n all
+  after_is = take_all (length all - n) (drop n all) (omega (arith, length-drop n all))
+
+  pub zeros_after : zeros after ≡ zeros (drop n all)
+  zeros_after = ap zeros after_is
+
+  pub counted : (k : ℕ) → k ≡ prefix_len (λ x. eqb x 0) after → zeros_before (drop n all) ≡ k
+  counted k e = in_front (drop n all) ∙ ap (prefix_len (λ x. eqb x 0)) (sym after_is) ∙ sym e
+
+  -- there are zeros alone where as many stand in front as there are numbers
+  pub none_left : (k : ℕ) → k ≡ prefix_len (λ x. eqb x 0) after → length after ≤ k → zeros (drop n all) ≡ true
+  none_left k e h = by_test (zeros (drop n all)) refl
+    where
+      by_test : (b : Bool) → zeros (drop n all) ≡ b → b ≡ true
+      by_test true q = refl
+      by_test false q =
+          let b = before_is (drop n all) q in
+          absurd (omega (arith, h, b.0, counted k e, ap length after_is))
+
+  pub some_left : (k : ℕ) → k ≡ prefix_len (λ x. eqb x 0) after → k < length after → zeros (drop n all) ≡ false
+  some_left k e h = by_test (zeros (drop n all)) refl
+    where
+      by_test : (b : Bool) → zeros (drop n all) ≡ b → b ≡ false
+      by_test true q = absurd (omega (arith, h, all_before (drop n all) q, counted k e, ap length after_is))
+      by_test false q = refl

@@ -1,53 +1,40 @@
--- What reading makes of what read answers, and what is known of the program's answer.
+-- What is known of what was read, and of the program's answer. `old` and `new` are the bytes that the reader has left before and after,
+-- where these are known: of standard input no contract can say them.
 -- Assumes nothing.
-use Rattle.std.specs.Prelude.{ℕ, ◌+◌, ◌^◌, ◌<◌, ◌≤◌, ◌≡◌, List, [], ◌∷◌, cond, eqb, ℤ, length, take}
+use Rattle.std.specs.Prelude.{ℕ, ◌+◌, ◌^◌, ◌<◌, ◌≤◌, ◌≡◌, List, [], ◌++◌, Option, Result, Ok, Err, IfOk, IfSome, length}
+use Rattle.std.specs.Io.KnownBytes.{Consumes, IsAtEnd}
 use Rattle.compress.specs.declared.Width.TheVariants.{W160}
 use Rattle.ripemd.specs.State.{fresh_of}
-use Rattle.ripemd.specs.Feed.{fed_state, feed_of}
+use Rattle.ripemd.specs.Feed.{fed_state}
 use Rattle.ripemd.specs.declared.State.{State}
-use Rattle.ripemd.specs.declared.Fed.{Fed}
-use Rattle.input.specs.Read.{answered}
 use Rattle.rmd160.specs.Lines.{answer_of}
-use Rattle.rmd160.specs.declared.Ending.TheVariants.{Done, Failed, TooLong}
-use Rattle.rmd160.specs.declared.Step.TheVariants.{More, End}
-use Rattle.rmd160.specs.declared.Turn.{Turn}
-use Rattle.rmd160.specs.declared.Outcome.{Outcome}
-use Rattle.rmd160.specs.declared.Text.{Text}
-
--- a piece that feed refuses is the end
-abbrev pub fed_turn : Fed → Turn
-fed_turn f = record { step = cond (eqb f.number 0) More (End TooLong); state = f.state }
-
--- a read that gives no byte is the end of the input
-abbrev pub piece_turn : State → List ℕ → Turn
-piece_turn s [] = record { step = End Done; state = s }
-piece_turn s (b ∷ bs) = fed_turn (feed_of s (b ∷ bs))
-
--- a read that answers got, with its buffer
-unfoldable pub turn_of : State → ℤ → List ℕ → Turn
-turn_of s got buffer = answered (piece_turn s) (record { step = End Failed; state = s }) got buffer
-
--- r is what one read makes of s, whatever that read answers and puts into its buffer: no contract can say what is read
-pub record Turned (s : State) (r : Turn) : Type 0 where
-  pub got : ℤ
-  pub buffer : List ℕ
-  pub room : length buffer ≡ 4096
-  pub is : r ≡ turn_of s got buffer
+use Rattle.rmd160.specs.declared.Failure.{Failure}
+use Rattle.rmd160.specs.declared.Failure.TheVariants.{Read, Length}
 
 -- s is the fresh state, fed the message m
 pub record Took (m : List ℕ) (s : State) : Type 0 where
   pub short : length m < 2 ^ 61
   pub is : s ≡ fed_state (fresh_of W160) m
 
--- reading took some message; where it was too long, one buffer more makes 2^61 bytes
-pub record Heard (r : Outcome) : Type 0 where
-  pub message : List ℕ
-  pub took : Took message r.state
-  pub long : r.ending ≡ TooLong → 2 ^ 61 ≤ length message + 4096
+-- how reading ended: at the end of the input, with the state that took the message m; by a read that failed; or by a piece that makes the
+-- message too long
+abbrev pub Ended : List ℕ → List ℕ → Option (List ℕ) → Result State Failure → Type 0
+Ended m piece new (Ok s) = Took m s × (piece ≡ []) × IsAtEnd new
+Ended m piece new (Err Read) = piece ≡ []
+Ended m piece new (Err Length) = 2 ^ 61 ≤ length m + length piece
 
--- the text r is the answer for the message that reading took
-pub record Answered (r : Text) : Type 0 where
-  pub outcome : Outcome
-  pub heard : Heard outcome
-  pub room : r.length ≤ 96
-  pub is : take r.length r.bytes ≡ answer_of outcome.ending heard.message
+-- reading took some message, and ended so; a piece that was refused is one buffer at most
+pub record Heard (old new : Option (List ℕ)) (r : Result State Failure) : Type 0 where
+  pub message : List ℕ
+  pub piece : List ℕ
+  pub short : length message < 2 ^ 61
+  pub room : length piece ≤ 4096
+  pub read : Consumes old new (message ++ piece)
+  pub ended : Ended message piece new r
+
+-- the text r is the answer for the message that reading took; where no read failed, for all that the reader had
+pub record Answered (old new : Option (List ℕ)) (r : List ℕ) : Type 0 where
+  pub outcome : Result State Failure
+  pub heard : Heard old new outcome
+  pub is : r ≡ answer_of outcome heard.message
+  pub whole : IfOk outcome (λ _. IfSome old (λ xs. r ≡ answer_of outcome xs))

@@ -11,7 +11,7 @@ use Rattle.tables.specs.declared.Size.{Size}
 use Rattle.lines.specs.Steps.{Pair, pair_steps}
 use Rattle.lines.specs.Places.{named_pair, placed_pair, walk_of}
 use Rattle.lines.specs.declared.Both.{Both}
-use Rattle.lines.proofs.Pairs.{pair_named, pair_placed, sixteen, walk_placed, exchange_placed, all_back}
+use Rattle.lines.proofs.Pairs.{pair_named, pair_placed, walk_placed, exchange_placed, all_back}
 use Rattle.rounds.specs.Rounds.{after_round, rounds_of}
 use Rattle.rounds.specs.Engine.{places_of, names_of, exchanged_after}
 
@@ -21,10 +21,10 @@ unfolding exchanged_after
 after_placed z true n h q = exchange_placed z n h q
 after_placed z false n h q = refl
 
--- n rounds at the places, each as twice eight steps and what follows them
+-- n rounds at the places
 abbrev pub rounds_at : Size → Bool → List ℕ → ℕ → Both → Both
 rounds_at z e x zero p = p
-rounds_at z e x (suc n) p = exchanged_after e n (walk_of z x (16 * n + 8) 8 (walk_of z x (16 * n) 8 (rounds_at z e x n p)))
+rounds_at z e x (suc n) p = exchanged_after e n (walk_of z x (16 * n) 16 (rounds_at z e x n p))
 
 rounds_placed : (z : Size) (e : Bool) (x : List ℕ) (n : ℕ) → n ≤ count_of z → (q : Pair)
     → rounds_at z e x n (placed_pair z 0 q) ≡ placed_pair z (16 * n) (rounds_of z e x n q)
@@ -34,7 +34,6 @@ rounds_placed z e x (suc n) h q =
     let m : 16 * suc n ≡ 16 * n + 16 = omega arith in
     rw (
       rounds_placed z e x n (omega arith) q,
-      sixteen z (16 * n) x (placed_pair z (16 * n) (rounds_of z e x n q)),
       walk_placed z x (16 * n) 16 (rounds_of z e x n q),
       m,
     ) (after_placed z e n (omega arith) (pair_steps z x (16 * n) 16 (rounds_of z e x n q)))

@@ -2,6 +2,7 @@
 -- Assumes nothing.
 use Rattle.std.specs.Prelude.{Bool, true, false, ℕ}
 use Rattle.tables.specs.declared.Size.{Size}
+use Rattle.tables.specs.declared.Size.TheVariants.{Four, Five}
 use Rattle.lines.specs.Steps.{Pair}
 use Rattle.lines.specs.Places.{named_pair, placed_pair, exchanged_at}
 use Rattle.lines.specs.declared.Both.{Both}
@@ -18,3 +19,8 @@ names_of z p = named_pair z 0 p
 unfoldable pub exchanged_after : Bool → ℕ → Both → Both
 exchanged_after true n p = exchanged_at n p
 exchanged_after false n p = p
+
+-- a size by whether it is five
+abbrev pub size_if : Bool → Size
+size_if true = Five
+size_if false = Four

@@ -8,7 +8,7 @@ use mathlib.Core.Logic.{⊎_elim}
 use native.Mathlib.Omega.{arith}
 use borrow.Author.Tests.{lt-ltb, le-ltb, ltb-true, ltb-false, le-leb, lt-leb}
 use lib.Dec.{ltb}
-use lib.ListN.{length, get_or}
+use lib.ListN.{length}
 use Rattle.words.specs.Bytes.{Below}
 use Rattle.text.specs.Text.{hex_digit, hex_of}
 use Rattle.shape.specs.declared.Class.TheVariants.{Hex}
@@ -90,20 +90,11 @@ unhex_below n (x ∷ []) e = tt
 unhex_below zero (x ∷ y ∷ l) e = absurd (omega arith)
 unhex_below (suc n) (x ∷ y ∷ l) e = (omega (arith, value_small x, value_small y), unhex_below n l (omega arith))
 
-pub unhex_long : (n : ℕ) (l : List ℕ) → length l ≡ 2 * n → length (unhex_of l) ≡ n
+pub unhex_half : (l : List ℕ) → length (unhex_of l) ≡ length l / 2
 unfolding unhex_of
-unhex_long zero [] e = refl
-unhex_long (suc n) [] e = absurd (omega arith)
-unhex_long n (x ∷ []) e = absurd (omega arith)
-unhex_long zero (x ∷ y ∷ l) e = absurd (omega arith)
-unhex_long (suc n) (x ∷ y ∷ l) e = ap suc (unhex_long n l (omega arith))
+unhex_half [] = refl
+unhex_half (x ∷ []) = refl
+unhex_half (x ∷ y ∷ l) = omega (arith, unhex_half l)
 
-pub unhex_at : (l : List ℕ) (j : ℕ) → 2 * j + 1 < length l → get_or (unhex_of l) j 0 ≡ hex_value (get_or l (2 * j) 0) * 16 + hex_value (get_or l (2 * j + 1) 0)
-unfolding unhex_of
-unhex_at [] j h = absurd (omega arith)
-unhex_at (x ∷ []) j h = absurd (omega arith)
-unhex_at (x ∷ y ∷ l) zero h = refl
-unhex_at (x ∷ y ∷ l) (suc j) h =
-    let e : 2 * suc j ≡ suc (suc (2 * j)) = omega arith in
-    let f : suc (suc (2 * j)) + 1 ≡ suc (suc (2 * j + 1)) = omega arith in
-    rw (e, f) (unhex_at l j (omega arith))
+pub unhex_long : (n : ℕ) (l : List ℕ) → length l ≡ 2 * n → length (unhex_of l) ≡ n
+unhex_long n l e = omega (arith, unhex_half l)

@@ -1,83 +1,54 @@
--- One byte more, for the loops that follow a text.
+-- A part of a text counted as a chain counts it, and one digit more, for the loops that read digits.
 -- Assumes nothing.
-use Prim.Native.Nat.{ℕ, suc, ◌+◌, ◌-◌, ◌*◌, ◌%◌, ◌^◌, ◌≤◌, ◌<◌}
-use mathlib.Core.Path.{◌≡◌, ap, sym, ◌∙◌}
-use mathlib.Core.Bool.{true, false, cond}
-use mathlib.Core.List.{List}
+use Prim.Native.Nat.{ℕ, zero, suc, ◌+◌, ◌*◌, ◌/◌, ◌%◌, ◌^◌, ◌≤◌, ◌<◌}
+use mathlib.Core.Path.{◌≡◌, refl, ap, sym, ◌∙◌}
+use mathlib.Core.Bool.{Bool, true, false, cond}
+use mathlib.Core.List.{List, [], ◌∷◌, ◌++◌, append-nil}
 use native.Mathlib.Omega.{arith}
 use native.Mathlib.Nat.{pow-suc, pow-le-pow_right}
 use native.Mathlib.Numerals.{add-one}
-use borrow.Author.Tests.{eq-eqb, ne_eqb}
 use lib.Dec.{eqb, lit<}
-use lib.ListN.{length, get_or, take, drop, length-drop, drop_of_length-le}
-use lib.Seq.{drop-cons, length-take-le, get_or-take, get_or-drop}
+use lib.ListN.{length, get_or, take, drop, set, length-set, drop_of_length-le, take-append-drop}
+use lib.Seq.{drop-cons, drop-drop, append_snoc, take-suc-set}
+use Rattle.std.specs.List.{prefix_len, zip}
+use Rattle.std.proofs.lemmas.List.{drop-set-lt}
 use Rattle.shape.specs.declared.Class.{Class}
 use Rattle.shape.specs.Shape.{allows_of, along_of, run_of}
 use Rattle.shape.specs.Digits.{value_of, hex_value, unhex_of}
-use Rattle.shape.proofs.Hex.{unhex_long, unhex_at}
 
 -- ---- along a given text
-module _ (t s : List ℕ) (at j : ℕ) (ht : j < length t) where
-  along_step : at + j < length s
-      → along_of (drop j t) (drop (at + j) s) ≡ cond (eqb (get_or s (at + j) 0) (get_or t j 0)) (suc (along_of (drop (suc j) t) (drop (suc (at + j)) s))) 0
-  unfolding along_of
-  along_step h = rw (drop-cons t j 0 ht, drop-cons s (at + j) 0 h)
-
-  pub along_more : (a : ℕ) → at + j < length s → get_or s (at + j) 0 ≡ get_or t j 0 → a ≡ j + along_of (drop j t) (drop (at + j) s)
-      → a ≡ j + 1 + along_of (drop (j + 1) t) (drop (at + (j + 1)) s)
-  along_more a h e i =
-      let u : at + (j + 1) ≡ suc (at + j) = omega arith in
-      let b = rw (eq-eqb (get_or s (at + j) 0) (get_or t j 0) e) at (along_step h) in
-      rw (u, add-one j) (omega (arith, b))
-
-  pub along_other : at + j < length s → (get_or s (at + j) 0 ≡ get_or t j 0 → ⊥) → along_of (drop j t) (drop (at + j) s) ≡ 0
-  along_other h e = along_step h ∙ rw (ne_eqb (get_or s (at + j) 0) (get_or t j 0) e)
-
-  pub along_out : length s ≤ at + j → along_of (drop j t) (drop (at + j) s) ≡ 0
-  unfolding along_of
-  along_out h = rw (drop-cons t j 0 ht, drop_of_length-le s {i = at + j} h)
-
-pub along_all : (t l : List ℕ) (j : ℕ) → length t ≤ j → along_of (drop j t) l ≡ 0
+pub along_zip : (t l : List ℕ) → prefix_len (λ p. eqb p.0 p.1) (zip l t) ≡ along_of t l
 unfolding along_of
-along_all t l j h = rw (drop_of_length-le t {i = j} h)
+along_zip [] [] = refl
+along_zip [] (x ∷ l) = refl
+along_zip (b ∷ t) [] = refl
+along_zip (b ∷ t) (x ∷ l) = by_test (eqb x b) (along_zip t l)
+  where
+    by_test : (q : Bool) → prefix_len (λ p. eqb p.0 p.1) (zip l t) ≡ along_of t l
+        → cond q (1 + prefix_len (λ p. eqb p.0 p.1) (zip l t)) 0 ≡ cond q (suc (along_of t l)) 0
+    by_test true h = omega arith
+    by_test false h = refl
 
 -- ---- along a class
-module _ (c : Class) (n : ℕ) (s : List ℕ) (at j : ℕ) (hn : j < n) where
-  run_step : at + j < length s → run_of c (n - j) (drop (at + j) s) ≡ cond (allows_of c (get_or s (at + j) 0)) (suc (run_of c (n - (j + 1)) (drop (suc (at + j)) s))) 0
-  unfolding run_of
-  run_step h = let e : n - j ≡ suc (n - (j + 1)) = omega arith in rw (e, drop-cons s (at + j) 0 h)
-
-  pub run_more : (a : ℕ) → at + j < length s → allows_of c (get_or s (at + j) 0) ≡ true → a ≡ j + run_of c (n - j) (drop (at + j) s)
-      → a ≡ j + 1 + run_of c (n - (j + 1)) (drop (at + (j + 1)) s)
-  run_more a h e i =
-      let u : at + (j + 1) ≡ suc (at + j) = omega arith in
-      let b = rw e at (run_step h) in
-      rw u (omega (arith, b))
-
-  pub run_other : at + j < length s → allows_of c (get_or s (at + j) 0) ≡ false → run_of c (n - j) (drop (at + j) s) ≡ 0
-  run_other h e = run_step h ∙ rw e
-
-  pub run_out : length s ≤ at + j → run_of c (n - j) (drop (at + j) s) ≡ 0
-  unfolding run_of
-  run_out h = let e : n - j ≡ suc (n - (j + 1)) = omega arith in rw (e, drop_of_length-le s {i = at + j} h)
-
-pub run_none : (c : Class) (n j : ℕ) (l : List ℕ) → n ≤ j → run_of c (n - j) l ≡ 0
+pub run_prefix : (c : Class) (n : ℕ) (l : List ℕ) → prefix_len (allows_of c) (take n l) ≡ run_of c n l
 unfolding run_of
-run_none c n j l h = let e : n - j ≡ 0 = omega arith in rw e
+run_prefix c zero l = refl
+run_prefix c (suc n) [] = refl
+run_prefix c (suc n) (x ∷ l) = by_test (allows_of c x) (run_prefix c n l)
+  where
+    by_test : (q : Bool) → prefix_len (allows_of c) (take n l) ≡ run_of c n l
+        → cond q (1 + prefix_len (allows_of c) (take n l)) 0 ≡ cond q (suc (run_of c n l)) 0
+    by_test true h = omega arith
+    by_test false h = refl
 
 -- ---- decimal digits
-pub value_more : (l : List ℕ) (at n j x : ℕ) → j < n → at + n ≤ length l
-    → value_of x (take (n - j) (drop (at + j) l)) ≡ value_of (x * 10 + get_or l (at + j) 0 % 16) (take (n - (j + 1)) (drop (at + (j + 1)) l))
+pub value_more : (l : List ℕ) (j x : ℕ) → j < length l → value_of (x * 10 + get_or l j 0 % 16) (drop (j + 1) l) ≡ value_of x (drop j l)
 unfolding value_of
-value_more l at n j x h k =
-    let e : n - j ≡ suc (n - (j + 1)) = omega arith in
-    let u : at + (j + 1) ≡ suc (at + j) = omega arith in
-    let i : at + j < length l = omega arith in
-    rw (e, u, drop-cons l (at + j) 0 i)
+value_more l j x h = rw (drop-cons l j 0 h, add-one j)
 
-pub value_all : (l : List ℕ) (n j x : ℕ) → n ≤ j → value_of x (take (n - j) l) ≡ x
+pub value_all : (l : List ℕ) (x : ℕ) → value_of x (drop (length l) l) ≡ x
 unfolding value_of
-value_all l n j x h = let e : n - j ≡ 0 = omega arith in rw e
+value_all l x = rw (drop_of_length-le l {i = length l} (omega arith))
 
 pub value_room : (x b j : ℕ) → b < 16 → x + 2 ≤ 2 * 10 ^ j → x * 10 + b + 2 ≤ 2 * 10 ^ (j + 1)
 value_room x b j h k = rw (add-one j, pow-suc 10 j) (omega arith)
@@ -86,22 +57,35 @@ pub value_fits : (x j : ℕ) → j ≤ 17 → x + 2 ≤ 2 * 10 ^ j → x < 2 * 1
 value_fits x j h k = let m : 10 ^ j ≤ 10 ^ 17 = pow-le-pow_right (lit< tt) h in omega arith
 
 -- ---- pairs of hex digits
-module _ (l : List ℕ) (at n : ℕ) (h : at + 2 * n ≤ length l) where
-  digits_long : length (take (2 * n) (drop at l)) ≡ 2 * n
-  digits_long = length-take-le (2 * n) (drop at l) (omega (arith, length-drop at l))
+-- of the digits l, j pairs are read into out, which was o, and rest are to come
+pub record Unhexed (l o out rest : List ℕ) (j : ℕ) : Type 0 where
+  pub bytes : unhex_of l ≡ take j out ++ unhex_of rest
+  pub kept : drop j out ≡ drop j o
+  pub far : 2 * j + length rest ≡ length l
+  pub long : length out ≡ length o
 
-  pub bytes_long : length (unhex_of (take (2 * n) (drop at l))) ≡ n
-  bytes_long = unhex_long n (take (2 * n) (drop at l)) digits_long
+pub unhex_none : (l o : List ℕ) → Unhexed l o o l 0
+unhex_none l o = record { bytes = refl; kept = refl; far = omega arith; long = refl }
 
-  pub byte_at : (from j high low : ℕ) → j < n → from ≡ at + 2 * j → high ≡ hex_value (get_or l from 0) → low ≡ hex_value (get_or l (from + 1) 0)
-      → high * 16 + low ≡ get_or (unhex_of (take (2 * n) (drop at l))) j 0
-  byte_at from j high low i e p q =
-      let t = take (2 * n) (drop at l) in
-      let a : get_or t (2 * j) 0 ≡ get_or l from 0 =
-      get_or-take (2 * n) (drop at l) (2 * j) 0 (omega arith) ∙ get_or-drop at l (2 * j) 0 ∙ ap (λ (k : ℕ). get_or l k 0) (sym e)
-      in
-      let f : at + (2 * j + 1) ≡ from + 1 = omega arith in
-      let b : get_or t (2 * j + 1) 0 ≡ get_or l (from + 1) 0 =
-      get_or-take (2 * n) (drop at l) (2 * j + 1) 0 (omega arith) ∙ get_or-drop at l (2 * j + 1) 0 ∙ ap (λ (k : ℕ). get_or l k 0) f
-      in
-      rw (p, q, sym a, sym b) (sym (unhex_at t j (omega (arith, digits_long))))
+pub unhex_more : (l o out rest p : List ℕ) (j v : ℕ) → Unhexed l o out (p ++ rest) j → length p ≡ 2 → j < length out
+    → v ≡ hex_value (get_or p 0 0) * 16 + hex_value (get_or p 1 0) → Unhexed l o (set out j v) rest (j + 1)
+unfolding unhex_of
+unhex_more l o out rest [] j v u e i k = absurd (omega arith)
+unhex_more l o out rest (x ∷ []) j v u e i k = absurd (omega arith)
+unhex_more l o out rest (x ∷ y ∷ z ∷ p) j v u e i k = absurd (omega arith)
+unhex_more l o out rest (x ∷ y ∷ []) j v u e i k = record {
+  bytes = rw (add-one j, take-suc-set out j v i, append_snoc, k) u.bytes;
+  kept = drop-set-lt (j + 1) out j v (omega arith) ∙ sym (drop-drop 1 j out) ∙ ap (drop 1) u.kept ∙ drop-drop 1 j o;
+  far = omega (arith, u.far);
+  long = length-set out j v ∙ u.long;
+}
+
+pub unhex_end : (l o out rest : List ℕ) (j : ℕ) → Unhexed l o out rest j → length rest < 2 → out ≡ unhex_of l ++ drop (length l / 2) o
+unfolding unhex_of
+unhex_end l o out [] j u h =
+    let e : j ≡ length l / 2 = omega (arith, u.far) in
+    rw (u.bytes, append-nil (take j out), ← e, ← u.kept) (sym (take-append-drop j out))
+unhex_end l o out (x ∷ []) j u h =
+    let e : j ≡ length l / 2 = omega (arith, u.far) in
+    rw (u.bytes, append-nil (take j out), ← e, ← u.kept) (sym (take-append-drop j out))
+unhex_end l o out (x ∷ y ∷ rest) j u h = absurd (omega arith)

@@ -17,6 +17,19 @@ use Rattle.shape.specs.Shape.{Shape, ended, byte, either, allows_of, reach}
 abbrev pub Right : Shape → List ℕ → Type 0
 Right s l = length l < reach s l
 
+-- a text goes no farther than it is long, and one more where it has the shape
+pub reach_in : (s : Shape) (l : List ℕ) → reach s l ≤ suc (length l)
+unfolding reach
+reach_in ended [] = omega arith
+reach_in ended (x ∷ l) = omega arith
+reach_in (byte c s) [] = omega arith
+reach_in (byte c s) (x ∷ l) = by_test (allows_of c x) (reach_in s l)
+  where
+    by_test : (q : Bool) → reach s l ≤ suc (length l) → cond q (suc (reach s l)) 0 ≤ suc (suc (length l))
+    by_test true h = omega arith
+    by_test false h = omega arith
+reach_in (either s t) l = omega (arith, reach_in s l, reach_in t l)
+
 -- below the larger of two is below one of them
 of_two : (n a b : ℕ) → n < max a b → (n < a) ⊎ (n < b)
 of_two n a b h = by_test (ltb n a) refl

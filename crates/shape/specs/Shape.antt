@@ -1,6 +1,6 @@
 -- Shapes of a text, byte by byte, and how far a text goes along a shape. Nothing here knows of a sheet.
 -- Assumes nothing.
-use Rattle.std.specs.Prelude.{ℕ, zero, suc, max, Bool, cond, ◌&&◌, ◌||◌, List, [], ◌∷◌, leb, eqb}
+use Rattle.std.specs.Prelude.{ℕ, zero, suc, max, Bool, cond, ◌&&◌, ◌||◌, List, [], ◌∷◌, leb, eqb, Option, Some, None}
 use Rattle.shape.specs.declared.Class.{Class}
 use Rattle.shape.specs.declared.Class.TheVariants.{Just, Leading, Digit, Hex}
 
@@ -71,3 +71,8 @@ run_of c (suc n) (x ∷ l) = cond (allows_of c x) (suc (run_of c n l)) 0
 unfoldable pub numeral_of : ℕ → List ℕ → ℕ
 numeral_of n [] = 0
 numeral_of n (x ∷ l) = cond (eqb x 48) 1 (cond (allows_of Leading x) (suc (run_of Digit n l)) 0)
+
+-- a length, where there is one: none has length 0
+abbrev pub length_if : ℕ → Option ℕ
+length_if zero = None
+length_if (suc n) = Some (suc n)

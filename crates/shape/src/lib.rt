@@ -3,11 +3,11 @@
 
 pub mod digits;
 
-ghost use Rattle.std.specs.Prelude.{◌≡◌, ◌≤◌, length, drop};
-ghost use Rattle.shape.specs.Shape.{within, allows_of, along_of, run_of, numeral_of};
+ghost use Rattle.std.specs.Prelude.{◌≡◌};
+ghost use Rattle.shape.specs.Shape.{allows_of, along_of, run_of, numeral_of, length_if};
 
 // The bytes that may stand at a place of a text: that byte alone; 1 to 9; 0 to 9; 0 to 9 and a to f.
-#[derive(Clone, Copy)]
+#[derive(Clone, Copy, PartialEq, Eq, Debug)]
 pub enum Class {
     Just(u8),
     Leading,
@@ -15,81 +15,45 @@ pub enum Class {
     Hex,
 }
 
-fn in_range(a: u8, b: u8, x: u8) -> bool
-    ensures { result ≡ within a b x }
-{
-    if x < a {
-        return false;
-    }
-    x <= b
-}
-
-fn allows(c: Class, b: u8) -> bool
-    ensures { result ≡ allows_of c b }
-{
-    match c {
-        Class::Just(a) => b == a,
-        Class::Leading => in_range(49, 57, b),
-        Class::Digit => in_range(48, 57, b),
-        Class::Hex => {
-            if in_range(48, 57, b) {
-                return true;
-            }
-            in_range(97, 102, b)
+impl Class {
+    #[tactic(auto, unfolding(crate::specs::Shape::allows_of))]
+    fn allows(self, b: u8) -> bool
+        ensures { result ≡ allows_of self b }
+    {
+        match self {
+            Class::Just(a) => b == a,
+            Class::Leading => (b'1'..=b'9').contains(&b),
+            Class::Digit => (b'0'..=b'9').contains(&b),
+            Class::Hex => (b'0'..=b'9').contains(&b) || (b'a'..=b'f').contains(&b),
         }
     }
 }
 
-// How many bytes of s, from at on, are those of text.
-pub fn along(s: &[u8], at: usize, text: &[u8]) -> usize
-    requires { at ≤ length s.now }
-    ensures { result ≡ along_of text.now (drop at s.now) }
+// How many first bytes of s are those of text.
+pub fn along(s: &[u8], text: &[u8]) -> usize
+    ensures { result ≡ along_of text.now s.now }
 {
-    let mut j = 0;
-    while j < text.len() {
-        if s.len() - at <= j {
-            return j;
-        }
-        if s[at + j] != text[j] {
-            return j;
-        }
-        j += 1;
-    }
-    j
+    s.iter().zip(text).take_while(|(a, b)| a == b).count()
 }
 
-// How many bytes of s, from at on, are of a class, at most n.
-pub fn run(s: &[u8], at: usize, n: usize, c: Class) -> usize
-    requires { at ≤ length s.now }
-    ensures { result ≡ run_of c n (drop at s.now) }
+// How many first bytes of s are of a class, at most n. `along` but for the test of a byte: one function that takes the test is no shorter.
+pub fn run(s: &[u8], n: usize, c: Class) -> usize
+    ensures { result ≡ run_of c n s.now }
 {
-    let mut j = 0;
-    while j < n {
-        if s.len() - at <= j {
-            return j;
-        }
-        if !allows(c, s[at + j]) {
-            return j;
-        }
-        j += 1;
-    }
-    j
+    s.iter().take(n).take_while(|b| c.allows(**b)).count()
 }
 
-// How long the number is that starts at at: 1 to 17 digits, without leading zeros; 0 where none does.
-pub fn numeral(s: &[u8], at: usize) -> usize
-    requires { at ≤ length s.now }
-    ensures { result ≡ numeral_of 16 (drop at s.now) }
+// How long the number is that s starts with: 1 to 17 digits, without leading zeros.
+#[tactic(auto, using(crate::proofs::Parts::run_in), unfolding(crate::specs::Shape::numeral_of))]
+pub fn numeral(s: &[u8]) -> Option<usize>
+    ensures { result ≡ length_if (numeral_of 16 s.now) }
 {
-    if s.len() <= at {
-        return 0;
+    let (first, rest) = s.split_first()?;
+    if *first == b'0' {
+        return Some(1);
     }
-    let b = s[at];
-    if b == 48 {
-        return 1;
+    if !Class::Leading.allows(*first) {
+        return None;
     }
-    if !allows(Class::Leading, b) {
-        return 0;
-    }
-    1 + run(s, at + 1, 16, Class::Digit)
+    Some(1 + run(rest, 16, Class::Digit))
 }

@@ -20,7 +20,7 @@ use Rattle.ripemd.proofs.Outcomes.{accepted}
 use Rattle.ripemd.proofs.Kept.{Sound}
 use Rattle.shape.specs.Shape.{reach}
 use Rattle.shape.proofs.Reach.{Right}
-use Rattle.sheet.specs.declared.Readout.{Readout}
+use Rattle.sheet.specs.Answers.{Readout}
 use Rattle.sheet.specs.Sheet.{text_of, Shaped, words_shown, tail_shown, sheet_of}
 use Rattle.sheet.specs.Reading.{head_of, shape_of, sheet_shape, width_in, state_with, state_at, state_in, held_number, held, read_of}
 use Rattle.sheet.proofs.Lines.{head_long}

@@ -1,20 +1,30 @@
 -- What reading gives a text that is a sheet and one that is none; and the width along which a text goes farthest.
 -- Assumes nothing.
-use Prim.Native.Nat.{ℕ, ◌^◌, ◌≤◌, max}
-use mathlib.Core.Path.{◌≡◌, refl, ap, ◌∙◌}
+use Prim.Native.Nat.{ℕ, ◌*◌, ◌^◌, ◌≤◌, ◌<◌, max}
+use mathlib.Core.Path.{◌≡◌, refl, ap, sym, ◌∙◌}
 use mathlib.Core.Bool.{Bool, true, false, cond}
-use mathlib.Core.List.{List}
+use mathlib.Core.List.{List, [], ◌∷◌}
+use Rattle.std.specs.List.{fold}
 use native.Mathlib.Omega.{arith}
-use borrow.Author.Tests.{ne_eqb, ltb-true, ltb-false, lt-leb}
+use borrow.Author.Tests.{ne_eqb, ltb-true, ltb-false, lt-leb, lt-ltb, le-ltb}
 use lib.Dec.{eqb, leb, ltb}
+use lib.ListN.{length}
+use Rattle.compress.specs.Block.{used_of}
 use Rattle.compress.specs.declared.Width.{Width}
-use Rattle.compress.specs.declared.Width.TheVariants.{W128, W160, W256, W320}
-use Rattle.ripemd.specs.State.{wrong_start, fault_of}
+use Rattle.compress.specs.declared.Width.TheVariants.{W160}
+use Rattle.ripemd.specs.State.{wrong_start, fault_of, answer_of}
+use Rattle.ripemd.specs.Answers.{Answer, of_fault, plain}
+use Rattle.ripemd.specs.declared.refusals.Fault.{Fault}
+use Rattle.ripemd.specs.declared.refusals.Fault.TheVariants.{Fill, Count, Tail, Spare, Start}
 use Rattle.ripemd.specs.declared.State.{State}
 use Rattle.shape.specs.Shape.{reach}
 use Rattle.shape.proofs.Reach.{Right}
 use Rattle.sheet.specs.declared.Far.{Far}
-use Rattle.sheet.specs.Reading.{shape_of, sheet_shape, place_of, is_sheet, farther_of, farthest_of, width_in, state_in, Plain, held_number, read_number, read_of, held, refused_of}
+use Rattle.sheet.specs.Answers.{Readout}
+use Rattle.sheet.proofs.Apart.{words_read, tail_read}
+use Rattle.sheet.proofs.States.{made_plain}
+use Rattle.sheet.specs.Reading.{shape_of, sheet_shape, place_of, is_sheet, farther_of, farthest_of, widths, width_in}
+use Rattle.sheet.specs.Reading.{count_in, word_bytes_in, tail_in, state_at, state_in, Plain, held_number, read_number, read_of, held, refused_of}
 
 pub held_not_8 : (s : State) → held_number s ≡ 8 → ⊥
 unfolding held_number
@@ -40,6 +50,37 @@ module _ (s : State) (k : Plain s) where
       by_test true b = refl
       by_test false true = refl
       by_test false false = refl
+
+-- the same by what fault finds
+module _ (s : State) (k : Plain s) where
+  pub sound_held : plain 0 ≡ answer_of s (fault_of s) → record { number = 0; place = 0; state = s } ≡ held s
+  unfolding held
+  sound_held e = rw (held_by_fault s k, sym (ap (λ (a : Answer). a.number) e)) refl
+
+  pub count_held : plain 61 ≡ answer_of s (fault_of s) → refused_of 5 0 ≡ held s
+  unfolding held
+  count_held e = rw (held_by_fault s k, sym (ap (λ (a : Answer). a.number) e)) refl
+
+  pub start_held : (f : Fault) → (f ≡ Count → ⊥) → of_fault f ≡ answer_of s (fault_of s) → refused_of 7 0 ≡ held s
+  unfolding held
+  start_held f n e = rw (held_by_fault s k, still) refl
+    where
+      still : fault_of s ≡ 64
+      still = by_test f n (ap (λ (a : Answer). a.number) e) (leb (2 ^ 55) s.count.0) (wrong_start s.width s.words s.count.0) (fault_is s k)
+        where
+          by_test : (f : Fault) → (f ≡ Count → ⊥) → (of_fault f).number ≡ fault_of s → (a b : Bool) → fault_of s ≡ cond a 61 (cond b 64 0) → fault_of s ≡ 64
+          by_test Count n e a b q = absurd (n refl)
+          by_test f n e false true q = q
+          by_test Fill n e true b q = absurd (omega (arith, e, q))
+          by_test Fill n e false false q = absurd (omega (arith, e, q))
+          by_test (Tail i) n e true b q = absurd (omega (arith, e, q))
+          by_test (Tail i) n e false false q = absurd (omega (arith, e, q))
+          by_test (Spare i) n e true b q = absurd (omega (arith, e, q))
+          by_test (Spare i) n e false false q = absurd (omega (arith, e, q))
+          by_test Start n e true b q = absurd (omega (arith, e, q))
+          by_test Start n e false false q = absurd (omega (arith, e, q))
+
+pub ruleset held_steps = (sound_held, count_held, start_held)
 
 module _ (l : List ℕ) where
   pub read_right : is_sheet l ≡ true → read_of l ≡ held (state_in l)
@@ -73,28 +114,51 @@ gone_on l f w g = by_test (ltb f.place (reach (shape_of w) l))
     by_test false = g
 
 module _ (l : List ℕ) where
-  abbrev one : Far
-  one = farther_of l (record { place = 0; width = W160 }) W128
+  far_places : (f : Far) (ws : List Width) → (fold (farther_of l) f ws).place ≡ fold (λ n w. max n (reach (shape_of w) l)) f.place ws
+  far_places f [] = refl
+  far_places f (w ∷ ws) =
+      far_places (farther_of l f w) ws
+      ∙ ap (λ (n : ℕ). fold (λ n w. max n (reach (shape_of w) l)) n ws) (far_place l f w)
 
-  abbrev two : Far
-  two = farther_of l one W160
+  all_gone : (f : Far) (ws : List Width) → Gone l f → Gone l (fold (farther_of l) f ws)
+  all_gone f [] g = g
+  all_gone f (w ∷ ws) g = all_gone (farther_of l f w) ws (gone_on l f w g)
 
-  abbrev three : Far
-  three = farther_of l two W256
-
-  all_gone : Gone l (farthest_of l)
-  unfolding farthest_of
-  all_gone = gone_on l three W320 (gone_on l two W256 (gone_on l one W160 (gone_on l (record { place = 0; width = W160 }) W128 (omega arith))))
+  abbrev none : Far
+  none = record { place = 0; width = W160 }
 
   -- the farthest of the widths is the farthest of their sheets
   pub far_all : (farthest_of l).place ≡ reach sheet_shape l
   unfolding farthest_of reach
-  far_all =
-      far_place l three W320
-      ∙ ap (λ (n : ℕ). max n (reach (shape_of W320) l))
-      (far_place l two W256
-      ∙ ap (λ (n : ℕ). max n (reach (shape_of W256) l))
-      (far_place l one W160 ∙ ap (λ (n : ℕ). max n (reach (shape_of W160) l)) (far_place l (record { place = 0; width = W160 }) W128 ∙ (omega arith))))
+  far_all = far_places none widths ∙ omega arith
 
   pub far_width : Right sheet_shape l → Right (shape_of (width_in l)) l
-  far_width h = omega (arith, far_all, all_gone)
+  unfolding farthest_of
+  far_width h = omega (arith, far_all, all_gone none widths (omega arith))
+
+-- ---- what reading finds by the farthest width
+module _ (l : List ℕ) (f : Far) (e : f ≡ farthest_of l) where
+  far_is : f.place ≡ reach sheet_shape l
+  far_is = ap (λ (g : Far). g.place) e ∙ far_all l
+
+  pub refused_is : (r : Readout) → f.place ≤ length l → r ≡ refused_of 8 f.place → r ≡ read_of l
+  refused_is r h q = q ∙ ap (refused_of 8) far_is ∙ sym (read_wrong l (le-ltb (length l) (reach sheet_shape l) (omega (arith, far_is))))
+
+  module _ (h : length l < f.place) where
+    pub width_is : Right (shape_of f.width) l
+    width_is = rw e (far_width l (omega (arith, far_is)))
+
+    module _ (s : State) (q : s ≡ state_at f.width l) where
+      pub plain_is : Plain s
+      plain_is =
+          let w = f.width in
+          let n = 4 * used_of w in
+          let r = words_read w l width_is in
+          rw q (made_plain w (count_in l) (word_bytes_in n l) (tail_in n l) r.0 r.1 (tail_read w l width_is).1)
+
+      pub held_is : (r : Readout) → r ≡ held s → r ≡ read_of l
+      held_is r k =
+          k ∙ ap held (q ∙ ap (λ (g : Far). state_at g.width l) e)
+          ∙ sym (read_right l (lt-ltb (length l) (reach sheet_shape l) (omega (arith, far_is))))
+
+pub ruleset read_steps = (refused_is, width_is, held_is)

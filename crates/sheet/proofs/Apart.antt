@@ -1,27 +1,34 @@
 -- A text of a sheet's shape, taken apart: its parts stand where reading looks for them, and it is the sheet of what they are.
 -- Assumes nothing.
-use Prim.Native.Nat.{ℕ, ◌+◌, ◌*◌, ◌/◌, ◌%◌, ◌≤◌, ◌<◌}
+use Rattle.std.proofs.Common.{Option, Some}
+use Rattle.std.specs.Option.{IsSome}
+use Rattle.std.proofs.lemmas.List.{take_rest}
+use Prim.Native.Nat.{ℕ, zero, suc, ◌+◌, ◌*◌, ◌/◌, ◌%◌, ◌≤◌, ◌<◌}
 use mathlib.Core.Path.{◌≡◌, refl, ap, sym, ◌∙◌}
 use mathlib.Core.List.{List, [], ◌∷◌, ◌++◌}
 use native.Mathlib.Omega.{arith}
-use lib.ListN.{length, take, drop, length-append, length-drop, take-append-drop}
+use lib.ListN.{length, take, drop, length-append, length-drop, length-take, take-append-drop}
 use lib.Seq.{drop-drop, length-take-le}
 use Rattle.words.specs.Bytes.{Below}
 use Rattle.compress.specs.Block.{used_of}
 use Rattle.compress.specs.declared.Width.{Width}
 use Rattle.text.specs.Text.{decimal_of, hex_of}
 use Rattle.shape.specs.declared.Class.TheVariants.{Hex}
-use Rattle.shape.specs.Shape.{Shape, ended, reach, text, many, pairs, number, numeral_of}
+use Rattle.shape.specs.Shape.{Shape, ended, reach, text, many, pairs, number, run_of, numeral_of, length_if}
 use Rattle.text.specs.Text.{ascii}
 use Rattle.sheet.specs.Reading.{head_of}
 use Rattle.sheet.specs.Sheet.{text_of, Shaped}
 use Rattle.sheet.specs.Reading.{tail_shape, words_shape, shape_of, digits_in, count_in, words_at, word_bytes_in, tail_at, tail_digits, tail_in}
 use Rattle.shape.proofs.Reach.{Right}
 use Rattle.shape.proofs.Parts.{All, right_text, run_in, run_all, right_many, digits_in_lem, right_number, right_pairs}
-use Rattle.sheet.proofs.Followed.{after_tail, after_count}
+use Rattle.sheet.proofs.Followed.{after_tail, after_count, some_is, from}
 use Rattle.sheet.proofs.Lines.{head_long, in_parts}
 use Rattle.shape.proofs.Hex.{hex_unhex, unhex_below, unhex_long}
 use Rattle.shape.proofs.Decimal.{numeral_decimal, numeral_below, digits_numeral}
+
+is_some : (n : ℕ) → (n ≡ 0 → ⊥) → IsSome (length_if n)
+is_some zero k = absurd (k refl)
+is_some (suc n) k = refl
 
 right_ended : (l : List ℕ) → Right ended l → l ≡ []
 unfolding reach
@@ -107,6 +114,10 @@ module _ (w : Width) (l : List ℕ) (h : Right (shape_of w) l) where
   unfolding tail_in
   tail_bytes = unhex_long (k / 2) (take k (drop q l)) tail_long
 
+  -- what the code finds of where the parts stand
+  found : numeral_of 16 (from 17 l) ≡ d
+  found = ap (numeral_of 16) (take_rest l 17)
+
   count_text : take d (drop 17 l) ≡ decimal_of (count_in l)
   unfolding count_in
   count_text = sym (numeral_decimal (take d (drop 17 l)) (digits_numeral (drop 17 l) counted.0))
@@ -159,3 +170,29 @@ module _ (w : Width) (l : List ℕ) (h : Right (shape_of w) l) where
         tail_long = tail_read.1;
         is = apart;
       }
+
+-- ---- what the code finds of the count, o: it has d digits, and there is room for u words behind it
+module _ (w : Width) (l : List ℕ) (h : Right (shape_of w) l) (o : Option ℕ) (e : o ≡ length_if (numeral_of 16 (from 17 l))) where
+  pub some_count : IsSome o
+  some_count = rw (e, found w l h) (is_some (digits_in l) (counted w l h).0)
+
+  module _ (d : ℕ) (p : o ≡ Some d) where
+    pub count_is : d ≡ digits_in l
+    count_is = (some_is d (numeral_of 16 (from 17 l)) (sym p ∙ e)).0 ∙ found w l h
+
+    pub count_few : d ≤ 17
+    count_few = omega (arith, count_is, (count_room w l h).1)
+
+    pub count_long : (m : List ℕ) → length (take d m) ≤ 17
+    count_long m = omega (arith, count_few, length-take d m)
+
+    pub rest_room : (u : ℕ) → u ≡ used_of w → 17 + d + 7 + 8 * u + 6 ≤ length l
+    rest_room u q = omega (arith, count_is, tail_room w l h)
+
+pub run_fits : (n k : ℕ) (m : List ℕ) → k ≡ run_of Hex n m → k ≡ length (take k m)
+run_fits n k m e = sym (length-take-le k m (omega (arith, (run_in Hex n m).0)))
+
+pub run_few : (n k : ℕ) (m : List ℕ) → k ≡ run_of Hex n m → length (take k m) ≤ n
+run_few n k m e = omega (arith, (run_in Hex n m).1, length-take k m)
+
+pub ruleset state_steps = (head_room, some_count, count_few, count_long, rest_room, run_fits, run_few)

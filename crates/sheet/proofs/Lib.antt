@@ -7,3 +7,4 @@ pub mod Answers
 pub mod States
 pub mod Places
 pub mod Again
+pub mod Settled

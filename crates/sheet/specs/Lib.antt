@@ -1,3 +1,4 @@
 pub mod Sheet
 pub mod Reading
 pub mod Examples
+pub mod Answers

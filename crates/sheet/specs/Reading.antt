@@ -1,6 +1,7 @@
 -- What reading a sheet gives.
 -- Assumes nothing.
 use Rattle.std.specs.Prelude.{ℕ, ◌+◌, ◌*◌, ◌^◌, ◌<◌, ◌≡◌, Bool, true, cond, not, List, [], ◌∷◌, ◌++◌, leb, ltb, eqb, length, take, drop}
+use Rattle.std.specs.List.{fold}
 use Rattle.compress.specs.Block.{used_of}
 use Rattle.compress.specs.declared.Width.{Width}
 use Rattle.compress.specs.declared.Width.TheVariants.{W128, W160, W256, W320}
@@ -14,13 +15,17 @@ use Rattle.shape.specs.declared.Class.TheVariants.{Hex}
 use Rattle.shape.specs.Shape.{Shape, ended, either, reach, text, many, pairs, number, run_of, numeral_of}
 use Rattle.shape.specs.Digits.{value_of, unhex_of}
 use Rattle.sheet.specs.declared.Far.{Far}
-use Rattle.sheet.specs.declared.Readout.{Readout}
+use Rattle.sheet.specs.Answers.{Readout}
 use Rattle.sheet.specs.Sheet.{name_of}
 
 -- ---- the shape of a sheet, from its end
+-- the last line feed
+abbrev pub end_shape : Shape
+end_shape = text (ascii "\n") ended
+
 -- the last line, from the line feed before it
 abbrev pub tail_shape : Shape
-tail_shape = text (ascii "\ntail=") (pairs 63 (text (ascii "\n") ended))
+tail_shape = text (ascii "\ntail=") (pairs 63 end_shape)
 
 -- the lines from the one of the words on, of n hex digits, from the line feed before it
 abbrev pub words_shape : ℕ → Shape
@@ -50,9 +55,13 @@ is_sheet l = ltb (length l) (reach sheet_shape l)
 unfoldable pub farther_of : List ℕ → Far → Width → Far
 farther_of l f w = cond (ltb f.place (reach (shape_of w) l)) (record { place = reach (shape_of w) l; width = w }) f
 
+-- the widths, in the order in which reading looks at them
+abbrev pub widths : List Width
+widths = W128 ∷ W160 ∷ W256 ∷ W320 ∷ []
+
 -- of all widths, that along whose sheets a text goes farthest
 unfoldable pub farthest_of : List ℕ → Far
-farthest_of l = farther_of l (farther_of l (farther_of l (farther_of l (record { place = 0; width = W160 }) W128) W160) W256) W320
+farthest_of l = fold (farther_of l) (record { place = 0; width = W160 }) widths
 
 -- the width of a sheet
 abbrev pub width_in : List ℕ → Width

@@ -2,12 +2,14 @@
 #![tactic(auto)]
 
 mod fields;
+mod misread;
 mod reaching;
 pub mod reading;
 pub mod writing;
 
+pub use misread::Misread;
 pub use reading::read;
-use ripemd::{State, Width};
+use ripemd::Width;
 pub use writing::{sheet_length, write};
 
 // How far a text goes along the sheets of a width.
@@ -15,12 +17,4 @@ pub use writing::{sheet_length, write};
 struct Far {
     place: usize,
     width: Width,
-}
-
-// What read gives: on a refusal a fresh 160; the place is 0 with every number but 8.
-#[derive(Clone, Copy)]
-pub struct Readout {
-    pub number: u32,
-    pub place: usize,
-    pub state: State,
 }

@@ -1,54 +1,58 @@
 // How far a text goes along the sheets of each width.
-ghost use Rattle.std.specs.Prelude.{◌≡◌, ◌+◌, ◌≤◌, ◌<◌, length, drop};
+ghost use Rattle.std.specs.Prelude.{◌≡◌};
 ghost use Rattle.shape.specs.Shape.{reach};
-ghost use Rattle.sheet.specs.Reading.{tail_shape, words_shape, head_of, shape_of, farther_of, farthest_of};
+ghost use Rattle.sheet.specs.Reading.{end_shape, tail_shape, words_shape, head_of, shape_of, farther_of, farthest_of};
 
 use crate::Far;
 use ripemd::Width;
 use shape::Class;
 
-// How far s goes along the tail's line, from at on; one more where s ends with it.
-fn tail_reach(s: &[u8], at: usize) -> usize
-    requires { (at ≤ length s.now) × (at < 1000) }
-    ensures { result ≡ at + reach tail_shape (drop at s.now) }
+// How far s goes along the last line feed; one more where s is one.
+#[tactic(auto, using(crate::proofs::Followed::end_steps))]
+fn end_reach(s: &[u8]) -> usize
+    ensures { result ≡ reach end_shape s.now }
 {
-    let key = shape::along(s, at, b"\ntail=");
+    match s {
+        [b'\n'] => 2,
+        [b'\n', ..] => 1,
+        _ => 0,
+    }
+}
+
+// How far s goes along the tail's line; one more where s ends with it.
+#[tactic(auto, using(crate::proofs::Followed::tail_steps))]
+fn tail_reach(s: &[u8]) -> usize
+    ensures { result ≡ reach tail_shape s.now }
+{
+    let key = shape::along(s, b"\ntail=");
     if key < 6 {
-        return at + key;
+        return key;
     }
-    let from = at + 6;
-    let n = shape::run(s, from, 126, Class::Hex);
-    if n % 2 != 0 {
-        return from + n;
-    }
-    let to = from + n;
-    let feed = shape::along(s, to, b"\n");
-    if feed < 1 {
+    let to = 6 + shape::run(&s[6..], 126, Class::Hex);
+    if to % 2 != 0 {
         return to;
     }
-    if s.len() == to + 1 {
-        return to + 2;
-    }
-    to + 1
+    to + end_reach(&s[to..])
 }
 
-// How far s goes along the words' line, of n digits, and the tail's, from at on; one more where s ends with it.
-fn words_reach(s: &[u8], at: usize, n: usize) -> usize
-    requires { (at ≤ length s.now) × (at < 100) × (n < 100) }
-    ensures { result ≡ at + reach (words_shape n) (drop at s.now) }
+// How far s goes along the words' line, of n digits (n is the shape's and not the slice's), and the tail's; one more where s ends with it.
+#[tactic(auto, using(crate::proofs::Followed::words_steps))]
+fn words_reach(s: &[u8], n: usize) -> usize
+    ensures { result ≡ reach (words_shape n) s.now }
 {
-    let key = shape::along(s, at, b"\nwords=");
+    let key = shape::along(s, b"\nwords=");
     if key < 7 {
-        return at + key;
+        return key;
     }
-    let from = at + 7;
-    let k = shape::run(s, from, n, Class::Hex);
+    let k = shape::run(&s[7..], n, Class::Hex);
+    let to = 7 + k;
     if k < n {
-        return from + k;
+        return to;
     }
-    tail_reach(s, from + n)
+    to + tail_reach(&s[to..])
 }
 
+#[tactic(auto, unfolding(crate::specs::Reading::head_of))]
 pub(crate) fn head(w: Width) -> [u8; 17]
     ensures { result ≡ head_of w }
 {
@@ -61,34 +65,36 @@ pub(crate) fn head(w: Width) -> [u8; 17]
 }
 
 // How far s goes along the sheets of a width; one more where s is one.
+#[tactic(auto, using(crate::proofs::Followed::sheet_steps))]
 fn sheet_reach(s: &[u8], w: Width) -> usize
     ensures { result ≡ reach (shape_of w) s.now }
 {
     let start = head(w);
-    let key = shape::along(s, 0, &start);
+    let key = shape::along(s, &start);
     if key < 17 {
         return key;
     }
-    let d = shape::numeral(s, 17);
-    if d == 0 {
+    let Some(d) = shape::numeral(&s[17..]) else {
         return 17;
-    }
-    let used = compress::used(w);
-    words_reach(s, 17 + d, 8 * used)
+    };
+    let to = 17 + d;
+    to + words_reach(&s[to..], 8 * compress::used(w))
 }
 
 // The farther of f and the sheets of a further width.
+#[tactic(auto, unfolding(crate::specs::Reading::farther_of))]
 fn farther(s: &[u8], f: Far, w: Width) -> Far
     ensures { result ≡ farther_of s.now f w }
 {
-    let r = sheet_reach(s, w);
-    if f.place < r {
-        return Far { place: r, width: w };
+    let place = sheet_reach(s, w);
+    if f.place < place {
+        return Far { place, width: w };
     }
     f
 }
 
 // Of all widths, the one whose sheets s goes along farthest.
+#[tactic(auto, unfolding(crate::specs::Reading::farthest_of))]
 pub(crate) fn farthest(s: &[u8]) -> Far
     ensures { result ≡ farthest_of s.now }
 {
@@ -96,8 +102,5 @@ pub(crate) fn farthest(s: &[u8]) -> Far
         place: 0,
         width: Width::W160,
     };
-    let a = farther(s, none, Width::W128);
-    let b = farther(s, a, Width::W160);
-    let c = farther(s, b, Width::W256);
-    farther(s, c, Width::W320)
+    Width::ALL.iter().fold(none, |f, w| farther(s, f, *w))
 }

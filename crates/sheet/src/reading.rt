@@ -1,85 +1,70 @@
 // Reading a sheet.
 ghost use Rattle.std.specs.Prelude.{◌≡◌, ◌<◌, length};
 ghost use Rattle.shape.specs.Shape.{reach};
-ghost use Rattle.sheet.specs.Reading.{read_of, held, held_number, Plain, refused_of, state_at, shape_of};
+ghost use Rattle.sheet.specs.Reading.{read_of, held, Plain, state_at, shape_of};
+ghost use Rattle.sheet.specs.Answers.{read_told};
+ghost use Rattle.ripemd.specs.State.{fresh_of};
+ghost use Rattle.compress.specs.declared.Width.TheVariants.{W160};
 
-use crate::{Readout, fields, reaching};
-use ripemd::{BlockCount, State, Width};
+use crate::{Misread, fields, reaching};
+use ripemd::{BlockCount, Fault, Refused, State, Width};
 use shape::Class;
 
 // The state in a sheet of the width.
+#[tactic(auto, using(crate::proofs::Apart::state_steps))]
 fn state_at(s: &[u8], w: Width) -> State
     requires { length s.now < reach (shape_of w) s.now }
     ensures { result ≡ state_at w s.now }
 {
     let used = compress::used(w);
-    let d = shape::numeral(s, 17);
-    let count = BlockCount(shape::digits::value(s, 17, d));
+    let digits = &s[17..];
+    let d = shape::numeral(digits).unwrap();
     let from = 17 + d + 7;
-    let h = fields::words_at(s, from, used);
-    let wide = 4 * used;
-    let to = from + 2 * wide + 6;
-    let n = shape::run(s, to, 126, Class::Hex) / 2;
-    let t = fields::tail_at(s, to, n);
+    let to = from + 8 * used;
+    let rest = &s[to + 6..];
+    let n = shape::run(rest, 126, Class::Hex);
     State {
         width: w,
-        words: h,
-        count: count,
-        fill: n,
-        tail: t,
+        words: fields::words(&s[from..to], used),
+        count: BlockCount(shape::digits::value(&digits[..d])),
+        fill: n / 2,
+        tail: fields::tail(&rest[..n]),
     }
 }
 
-// What is wrong with a state that a sheet holds. Its fill, tail and spare words are right, so that a fault is of the count, 61, or of the start, 64.
-fn held_number(s: State) -> u32
+// A refusal hands back a fresh 160.
+fn refused(refusal: Misread) -> Refused<Misread>
+    ensures { (result.refusal ≡ refusal) × (result.state ≡ fresh_of W160) }
+{
+    Refused {
+        refusal,
+        state: ripemd::fresh(Width::W160),
+    }
+}
+
+// What a sheet that holds s gives. Its fill, tail and spare words are right, so that a fault is of the count or of the start.
+#[tactic(auto, using(crate::proofs::Answers::held_steps))]
+fn held(s: State) -> Result<State, Refused<Misread>>
     requires { Plain s }
-    ensures { result ≡ held_number s }
+    ensures { read_told result ≡ held s }
 {
-    let f = ripemd::fault(s);
-    let number = f.number;
-    match number {
-        61 => 5,
-        64 => 7,
-        _ => 0,
-    }
-}
-
-fn refused(number: u32, place: usize) -> Readout
-    ensures { result ≡ refused_of number place }
-{
-    let f = ripemd::fresh(Width::W160);
-    Readout {
-        number: number,
-        place: place,
-        state: f,
-    }
-}
-
-fn read_held(s: State) -> Readout
-    requires { Plain s }
-    ensures { result ≡ held s }
-{
-    let n = held_number(s);
-    if n != 0 {
-        return refused(n, 0);
-    }
-    Readout {
-        number: 0,
-        place: 0,
-        state: s,
+    let Some(fault) = ripemd::fault(s) else {
+        return Ok(s);
+    };
+    match fault {
+        Fault::Count => Err(refused(Misread::TooMany)),
+        _ => Err(refused(Misread::WrongStart)),
     }
 }
 
 // The state of which the text is the sheet.
-pub fn read(sheet: &[u8]) -> Readout
-    ensures { result ≡ read_of sheet.now }
+#[tactic(auto, using(crate::proofs::Answers::read_steps))]
+pub fn read(sheet: &[u8]) -> Result<State, Refused<Misread>>
+    ensures { read_told result ≡ read_of sheet.now }
 {
     let f = reaching::farthest(sheet);
-    let place = f.place;
-    if place <= sheet.len() {
-        return refused(8, place);
+    if f.place <= sheet.len() {
+        return Err(refused(Misread::Shape(f.place)));
     }
-    let width = f.width;
-    let s = state_at(sheet, width);
-    read_held(s)
+    held(state_at(sheet, f.width))
 }

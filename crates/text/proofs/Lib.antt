@@ -1,4 +1,3 @@
+pub mod Appended
 pub mod Halves
 pub mod Numbers
-pub mod Place
-pub mod Placed

@@ -1,14 +1,15 @@
--- Laws of a number's digits at the end of a buffer: one more before the others, and the first of them.
+-- Laws of a number's digits: at the end of a buffer, one more before the others and the first of them; and how many they are.
 -- Assumes nothing.
 use Prim.Native.Nat.{ℕ, zero, suc, ◌+◌, ◌/◌, ◌%◌, ◌^◌, ◌≤◌, ◌<◌}
 use mathlib.Core.Path.{◌≡◌, ◌∙◌}
 use mathlib.Core.List.{List, ◌∷◌, ◌++◌}
 use native.Mathlib.Nat.{pow-suc}
 use native.Mathlib.Omega.{arith}
-use lib.ListN.{length, drop, set, length-set}
+use lib.ListN.{length, drop, set, length-set, length-append}
 use lib.Seq.{append_snoc, drop-cons, drop-set-lt, get_or-set_same}
+use Rattle.std.proofs.lemmas.Bool.Decides.{nat_tests}
 use borrow.Author.Tests.{lt-ltb, le-ltb}
-use Rattle.text.specs.Text.{digits_of}
+use Rattle.text.specs.Text.{digits_of, decimal_of}
 
 drop_set : (l : List ℕ) (i b : ℕ) → i < length l → drop i (set l i b) ≡ b ∷ drop (suc i) l
 drop_set l i b h =
@@ -31,3 +32,13 @@ module _ (l : List ℕ) (i y : ℕ) (hl : i < length l) where
   pub digit_first : y < 10 → drop i (set l i (48 + y)) ≡ digits_of (suc i) y ++ drop (suc i) l
   unfolding digits_of
   digit_first h = drop_set l i (48 + y) hl ∙ simp (lt-ltb y 10 h)
+
+-- ---- how long a number is
+digits_long : (n x : ℕ) → length (digits_of n x) ≤ n
+unfolding digits_of
+digits_long zero x = omega arith
+digits_long (suc n) x = grind (arith, nat_tests, length-append, digits_long n (x / 10))
+
+pub decimal_long : (x : ℕ) → length (decimal_of x) ≤ 20
+unfolding decimal_of
+decimal_long x = digits_long 20 x

@@ -1,7 +1,7 @@
 -- Examples of the texts.
 -- Assumes nothing.
 use Rattle.std.specs.Prelude.{◌≡◌, refl, [], ◌∷◌}
-use Rattle.text.specs.Text.{decimal_of, digits_of, hex_digit, hex_of, put_at}
+use Rattle.text.specs.Text.{decimal_of, digits_of, hex_digit, hex_of, appended, put_at}
 
 zero_in_decimal : decimal_of 0 ≡ 48 ∷ []
 unfolding decimal_of digits_of
@@ -21,3 +21,8 @@ bytes_in_hex = refl
 in_three_bytes : (put_at (0 ∷ 0 ∷ 0 ∷ []) 1 (104 ∷ 105 ∷ []) ≡ 0 ∷ 104 ∷ 105 ∷ []) × (put_at (0 ∷ 0 ∷ 0 ∷ []) 2 (104 ∷ 105 ∷ []) ≡ 0 ∷ 0 ∷ 0 ∷ [])
 unfolding put_at
 in_three_bytes = (refl, refl)
+
+-- the same behind one byte of three, and behind two
+appended_in_three : (appended 3 (46 ∷ []) (104 ∷ 105 ∷ []) ≡ 46 ∷ 104 ∷ 105 ∷ []) × (appended 3 (46 ∷ 46 ∷ []) (104 ∷ 105 ∷ []) ≡ 46 ∷ 46 ∷ [])
+unfolding appended
+appended_in_three = (refl, refl)

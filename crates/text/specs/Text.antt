@@ -1,4 +1,4 @@
--- Text as lists of ASCII bytes, and a buffer with a text written into it.
+-- Text as lists of ASCII bytes.
 -- Assumes nothing.
 use Rattle.std.specs.Prelude.{ℕ, zero, suc, ◌+◌, ◌-◌, ◌/◌, ◌%◌, Bool, cond, List, [], ◌∷◌, ◌++◌, leb, ltb, length, take, drop}
 use Prim.Native.Char.{code}
@@ -31,6 +31,10 @@ hex_of (b ∷ bs) = hex_digit (b / 16) ∷ hex_digit (b % 16) ∷ hex_of bs
 abbrev pub line_of : string.String → List ℕ → List ℕ
 line_of key value = ascii key ++ ascii "=" ++ value ++ ascii "\n"
 
+-- the text t with s behind it, where n bytes are enough for both; else t as it was
+unfoldable pub appended : ℕ → List ℕ → List ℕ → List ℕ
+appended n t s = cond (leb (length t + length s) n) (t ++ s) t
+
 -- the buffer o has room for the text t from the place at on
 abbrev pub fits : List ℕ → ℕ → List ℕ → Bool
 fits o at t = leb (at + length t) (length o)
@@ -38,7 +42,3 @@ fits o at t = leb (at + length t) (length o)
 -- the buffer with the text at the place, where it fits; else the buffer as it was
 unfoldable pub put_at : List ℕ → ℕ → List ℕ → List ℕ
 put_at o at t = cond (fits o at t) (take at o ++ t ++ drop (at + length t) o) o
-
--- the place after the text, where it fits; else the place itself
-unfoldable pub next_at : List ℕ → ℕ → List ℕ → ℕ
-next_at o at t = cond (fits o at t) (at + length t) at

@@ -1,64 +1,119 @@
-// Text written into a lent buffer. Each function returns the place after its text. Where the text doesn't fit,
-// nothing is written and the place comes back as it was.
+// Text in fixed memory.
 #![tactic(auto)]
 
-ghost use Rattle.std.specs.Prelude.{◌≡◌, ◌≤◌, ◌<◌, length, take, drop};
-ghost use Rattle.text.specs.Text.{decimal_of, hex_digit, hex_of, next_at, put_at};
+ghost use Rattle.std.specs.Prelude.{◌≡◌, ◌≤◌, ◌<◌, List, ℕ, [], ◌∷◌, ◌++◌, length, take, drop};
+ghost use Rattle.text.specs.Text.{decimal_of, hex_digit, hex_of, appended};
 
-// The first n bytes of s, or all of it where it has fewer: what was written so far, for a place n.
-pub fn first(s: &[u8], n: usize) -> &[u8]
-    ensures { result.now ≡ take n s.now }
-{
-    if n <= s.len() {
-        return &s[..n];
-    }
-    s
+use std::marker::Model;
+
+/// A text of at most N bytes, in fixed memory.
+#[derive(Drop)]
+pub struct Text<const N: usize> {
+    bytes: [u8; N],
+    len: usize,
 }
 
-// The text, into out from at on.
-pub fn bytes(out: &mut [u8], at: usize, text: &[u8]) -> usize
-    ensures { (result ≡ next_at out.old at text.now) × (out.new ≡ put_at out.old at text.now) }
-{
-    if out.len() < at {
-        return at;
-    }
-    if out.len() - at < text.len() {
-        return at;
-    }
-    let mut j = 0;
-    while j < text.len() {
-        out[at + j] = text[j];
-        j += 1;
-    }
-    at + j
+// Clauses see the bytes written so far.
+impl<const N: usize> Model for Text<N> {
+    ghost Value = { List ℕ };
+
+    ghost view = { λ t. take t.len t.bytes };
+
+    ghost invariant = { λ t. t.len ≤ N };
 }
 
-// The number in decimal, at the end of room; the place where it starts there.
-fn digits(room: &mut [u8], x: u64) -> usize
-    requires { length room.old ≡ 20 }
+// What doesn't fit is not written, no part of it.
+impl<const N: usize> Text<N> {
+    pub fn new() -> Self
+        ensures { result ≡ [] }
+    {
+        Text {
+            bytes: [0; N],
+            len: 0,
+        }
+    }
+
+    /// A text that fits.
+    pub fn of(text: &[u8]) -> Self
+        requires { length text.now ≤ N }
+        ensures { result ≡ text.now }
+    {
+        let mut t = Text::new();
+        t.bytes(text);
+        t
+    }
+
+    pub fn as_bytes(&self) -> &[u8]
+        ensures { (result.now ≡ self.now) × (length result.now ≤ N) }
+    {
+        &self.bytes[..self.len]
+    }
+
+    pub fn len(&self) -> usize
+        ensures { (result ≡ length self.now) × (result ≤ N) }
+    {
+        self.len
+    }
+
+    pub fn bytes(&mut self, text: &[u8])
+        ensures { self.new ≡ appended N self.old text.now }
+    {
+        if N - self.len < text.len() {
+            return;
+        }
+        let end = self.len + text.len();
+        let room = &mut self.bytes[..];
+        room[self.len..end].copy_from_slice(text);
+        self.len = end;
+    }
+
+    pub fn decimal(&mut self, x: u64)
+        ensures { self.new ≡ appended N self.old (decimal_of x) }
+    {
+        let mut room = [0; 20];
+        let first = digits(&mut room, x);
+        self.bytes(&room[first..]);
+    }
+
+    pub fn hex(&mut self, bytes: &[u8])
+        ensures { self.new ≡ appended N self.old (hex_of bytes.now) }
+    {
+        // Against half of the room: twice the bytes might overflow.
+        if (N - self.len) / 2 < bytes.len() {
+            return;
+        }
+        for b in bytes {
+            self.push(hex_digit(b / 16));
+            self.push(hex_digit(b % 16));
+        }
+    }
+
+    fn push(&mut self, b: u8)
+        requires { length self.old < N }
+        ensures { self.new ≡ self.old ++ b ∷ [] }
+    {
+        self.bytes[self.len] = b;
+        self.len += 1;
+    }
+}
+
+// The number in decimal, at the end of room; the place where it starts there. By `while`, since the digits say where to stop.
+fn digits(room: &mut [u8; 20], x: u64) -> usize
     ensures { (result ≤ 20) × (drop result room.new ≡ decimal_of x) }
 {
     let mut rest = x;
     let mut first = 19;
     while 10 <= rest {
         room[first] = b'0' + (rest % 10) as u8;
-        rest = rest / 10;
+        rest /= 10;
         first -= 1;
     }
     room[first] = b'0' + rest as u8;
     first
 }
 
-// The number in decimal, into out from at on.
-pub fn decimal(out: &mut [u8], at: usize, x: u64) -> usize
-    ensures { (result ≡ next_at out.old at (decimal_of x)) × (out.new ≡ put_at out.old at (decimal_of x)) }
-{
-    let mut room = [0u8; 20];
-    let first = digits(&mut room, x);
-    bytes(out, at, &room[first..])
-}
-
-// A hex digit, in lower case.
+// A hex digit, in lower case: a byte, where std's is a char.
+#[tactic(auto, unfolding(crate::specs::Text::hex_digit))]
 fn hex_digit(d: u8) -> u8
     requires { d < 16 }
     ensures { result ≡ hex_digit d }
@@ -66,25 +121,12 @@ fn hex_digit(d: u8) -> u8
     if d < 10 { b'0' + d } else { b'a' + (d - 10) }
 }
 
-// The bytes in hex, into out from at on.
-pub fn hex(out: &mut [u8], at: usize, bytes: &[u8]) -> usize
-    ensures { (result ≡ next_at out.old at (hex_of bytes.now)) × (out.new ≡ put_at out.old at (hex_of bytes.now)) }
+// The first n bytes of s, or all of it where it has fewer: n may be more than s has.
+pub fn first(s: &[u8], n: usize) -> &[u8]
+    ensures { result.now ≡ take n s.now }
 {
-    if out.len() < at {
-        return at;
+    if n <= s.len() {
+        return &s[..n];
     }
-    // Against half of the room: twice the bytes might overflow.
-    if (out.len() - at) / 2 < bytes.len() {
-        return at;
-    }
-    let mut place = at;
-    let mut i = 0;
-    while i < bytes.len() {
-        let b = bytes[i];
-        out[place] = hex_digit(b / 16);
-        out[place + 1] = hex_digit(b % 16);
-        place += 2;
-        i += 1;
-    }
-    place
+    s
 }

@@ -1,18 +1,25 @@
 // A row of the sample: WIDTH KIND ARGUMENT HEX.
 use ripemd::{State, Width};
 use std::io;
+use text::Text;
 
 pub fn named(rt: &impl Print, w: Width, kind: &[u8], name: &[u8], bytes: &[u8]) -> io::Result<()> {
-    let mut out = [0u8; 640];
-    let a = text::decimal(&mut out, 0, 8 * front::digest_length(w) as u64);
-    let b = text::bytes(&mut out, a, b" ");
-    let c = text::bytes(&mut out, b, kind);
-    let d = text::bytes(&mut out, c, b" ");
-    let e = text::bytes(&mut out, d, name);
-    let f = text::bytes(&mut out, e, b" ");
-    let g = text::hex(&mut out, f, bytes);
-    let n = text::bytes(&mut out, g, b"\n");
-    rt.write_all(text::first(&out, n))
+    let mut row: Text<640> = Text::new();
+    row.decimal(8 * front::digest_length(w) as u64);
+    row.bytes(b" ");
+    row.bytes(kind);
+    row.bytes(b" ");
+    row.bytes(name);
+    row.bytes(b" ");
+    row.hex(bytes);
+    row.bytes(b"\n");
+    rt.write_all(row.as_bytes())
+}
+
+fn decimal(number: usize) -> Text<20> {
+    let mut name = Text::new();
+    name.decimal(number as u64);
+    name
 }
 
 // The same under a number.
@@ -23,15 +30,14 @@ pub fn bytes_at(
     number: usize,
     bytes: &[u8],
 ) -> io::Result<()> {
-    let mut name = [0u8; 20];
-    let n = text::decimal(&mut name, 0, number as u64);
-    named(rt, w, kind, text::first(&name, n), bytes)
+    let name = decimal(number);
+    named(rt, w, kind, name.as_bytes(), bytes)
 }
 
 // The digest of a state, under a name.
 pub fn digest(rt: &impl Print, w: Width, kind: &[u8], name: &[u8], s: State) -> io::Result<()> {
     let mut out = [0u8; 40];
-    front::finish(s, &mut out);
+    let _ = front::finish(s, &mut out);
     named(
         rt,
         w,
@@ -49,21 +55,14 @@ pub fn digest_at(
     number: usize,
     s: State,
 ) -> io::Result<()> {
-    let mut out = [0u8; 40];
-    front::finish(s, &mut out);
-    bytes_at(
-        rt,
-        w,
-        kind,
-        number,
-        text::first(&out, front::digest_length(w)),
-    )
+    let name = decimal(number);
+    digest(rt, w, kind, name.as_bytes(), s)
 }
 
 // The record of a state, under a number.
 pub fn record_at(rt: &impl Print, w: Width, number: usize, s: State) -> io::Result<()> {
     let mut out = [0u8; 48];
-    front::export(s, &mut out);
+    let _ = front::export(s, &mut out);
     bytes_at(
         rt,
         w,
@@ -73,33 +72,27 @@ pub fn record_at(rt: &impl Print, w: Width, number: usize, s: State) -> io::Resu
     )
 }
 
-// A number, and the place or the index beside it, a byte each.
-fn pair(number: u32, beside: usize) -> [u8; 2] {
-    let mut out = [0u8; 2];
-    words::bytes::put(&mut out, 0, 1, number as u64);
-    words::bytes::put(&mut out, 1, 1, beside as u64);
-    out
+// A number, and the place or the index beside it, a byte each, as the sample's rows have them.
+fn pair((number, beside): (u32, usize)) -> [u8; 2] {
+    [number.to_le_bytes()[0], beside.to_le_bytes()[0]]
 }
 
 // What reading gives a text.
 pub fn readout(text: &[u8]) -> [u8; 2] {
-    let r = sheet::read(text);
-    pair(r.number, r.place)
+    let refused = sheet::read(text).err();
+    pair(refused.map_or((0, 0), |r| (r.refusal.number(), r.refusal.place())))
 }
 
 // What fault and feed give a state, under the name of what was done to it.
 pub fn faults(rt: &impl Print, w: Width, name: &[u8], s: State) -> io::Result<()> {
-    let a = ripemd::fault(s);
-    let told = pair(a.number, a.index);
+    let told = pair(ripemd::fault(s).map_or((0, 0), |f| (f.number(), f.index())));
     named(rt, w, b"fault", name, &told)?;
-    let f = ripemd::feed(s, b"abc");
-    let fed = pair(f.number, f.index);
+    let refused = ripemd::feed(s, b"abc").err();
+    let fed = pair(refused.map_or((0, 0), |r| (r.refusal.number(), r.refusal.index())));
     named(rt, w, b"feed", name, &fed)
 }
 
-// A number of import, under a name.
+// A number of import, under a name: the row has the scope's number.
 pub fn number(rt: &impl Print, w: Width, name: &[u8], n: u32) -> io::Result<()> {
-    let mut out = [0u8; 1];
-    words::bytes::put(&mut out, 0, 1, n as u64);
-    named(rt, w, b"import", name, &out)
+    named(rt, w, b"import", name, &n.to_le_bytes()[..1])
 }

@@ -1,8 +1,9 @@
 -- Laws of numbers as bytes: what they are long, one byte or word more, and there and back again.
 -- Assumes nothing.
-use Rattle.std.proofs.Common.{◌≡◌, ℕ, zero, suc, ◌+◌, ◌-◌, ◌*◌, ◌/◌, ◌%◌, ◌^◌, ◌<◌, ◌≤◌, List, [], ◌∷◌, ◌++◌, length, get_or, take, drop, set, replicate, sym, refl, ap, ◌∙◌, append_assoc, append-nil, div-lt_iff_lt-mul, pow-suc, add-one, arith, lit<, length-append, length-drop, length-take, length-take-le, get_or-drop, drop-cons, get_or-take, take-suc, drop-drop, take_at, take-add, drop_at}
+use Rattle.std.proofs.Common.{◌≡◌, ℕ, zero, suc, ◌+◌, ◌-◌, ◌*◌, ◌/◌, ◌%◌, ◌^◌, ◌<◌, ◌≤◌, List, [], ◌∷◌, ◌++◌, length, get_or, take, drop, set, replicate, sym, refl, ap, ◌∙◌, append_assoc, append-nil, div-lt_iff_lt-mul, pow-suc, add-one, arith, lit<, length-append, length-drop, length-take, length-take-le, drop-cons, take-suc, take-suc-set, drop-drop, take_at, take-add, drop_at}
+use borrow.Rule.Slice.PartMut.{put_mid}
 use native.Mathlib.Nat.{pow-le-pow_right}
-use lib.Seq.{set_at, append_snoc, take-append-le, drop-append-le}
+use lib.Seq.{set_at, take-append-le, drop-append-le}
 use Rattle.words.specs.Bytes.{bytes_of, number_of, word_bytes, words_of, Below}
 
 -- ---- how long
@@ -23,24 +24,14 @@ length_words zero l = refl
 length_words (suc n) l = ap suc (length_words n (drop 4 l))
 
 -- ---- one byte more, for `put` and `get`
-module _ (l : List ℕ) (n j y : ℕ) (h : j < n) (hl : length l ≡ n) (e : drop j l ≡ bytes_of (n - j) y) where
-  both : get_or l j 0 ∷ drop (suc j) l ≡ y % 256 ∷ bytes_of (n - suc j) (y / 256)
-  both =
-      let s : n - j ≡ suc (n - suc j) = omega arith in
-      sym (drop-cons l j 0 (omega arith)) ∙ e ∙ ap (λ (k : ℕ). bytes_of k y) s
+pub byte_more : (out : List ℕ) (x i rest : ℕ) → i < length out → ((n : ℕ) → bytes_of (i + n) x ≡ take i out ++ bytes_of n rest)
+    → (n : ℕ) → bytes_of (i + 1 + n) x ≡ take (i + 1) (set out i (rest % 256)) ++ bytes_of n (rest / 256)
+byte_more out x i rest h p n =
+    let e : i + 1 + n ≡ i + suc n = omega arith in
+    rw (e, p (suc n), add-one, take-suc-set out i (rest % 256) h, append_assoc)
 
-  pub byte_is : get_or l j 0 ≡ y % 256
-  byte_is = let b = both in cc
-
-  pub bytes_on : drop (j + 1) l ≡ bytes_of (n - (j + 1)) (y / 256)
-  bytes_on = rw add-one (let b = both in cc)
-
-pub number_step : (l : List ℕ) (at n j x : ℕ) → j < n → at + n ≤ length l → x ≡ number_of (drop (suc j) (take n (drop at l)))
-    → x * 256 + get_or l (at + j) 0 ≡ number_of (drop j (take n (drop at l)))
-number_step l at n j x h hl e =
-    let hd : j < length (take n (drop at l)) = simp (length-take, length-drop) (omega arith) in
-    let g : get_or (take n (drop at l)) j 0 ≡ get_or l (at + j) 0 = get_or-take n (drop at l) j 0 h ∙ get_or-drop at l j 0 in
-    rw (drop-cons (take n (drop at l)) j 0 hd, g, e) (omega arith)
+pub number_step : (l : List ℕ) (j x : ℕ) → j < length l → x ≡ number_of (drop (suc j) l) → x * 256 + get_or l j 0 ≡ number_of (drop j l)
+number_step l j x h e = rw (drop-cons l j 0 h) (omega arith)
 
 -- of at most eight bytes, seven before the last
 pub pow_room : (x m : ℕ) → m ≤ 7 → x < 256 ^ m → x < 256 ^ 7
@@ -55,33 +46,31 @@ words_snoc [] w = append-nil (bytes_of 4 w)
 words_snoc (v ∷ ws) w =
     ap (λ (r : List ℕ). bytes_of 4 v ++ r) (words_snoc ws w) ∙ sym (append_assoc (bytes_of 4 v) (word_bytes ws) (bytes_of 4 w))
 
-module _ (out : List ℕ) (i w : ℕ) (hl : 4 * i + 4 ≤ length out) where
-  up_to_here : length (take (4 * i) out ++ bytes_of 4 w) ≡ 4 * (i + 1)
-  up_to_here =
-      let l4 = length_bytes_lem 4 w in
-      let lt : length (take (4 * i) out) ≡ 4 * i = length-take-le (4 * i) out (omega arith) in
-      let la = length-append (take (4 * i) out) (bytes_of 4 w) in
-      omega arith
+pub words_put : (out ws old bytes : List ℕ) (i k : ℕ) → i < length ws → 4 * length ws ≤ length old
+    → out ≡ word_bytes (take i ws) ++ drop (4 * i) old → bytes ≡ bytes_of 4 (get_or ws i 0) → k ≡ 4
+    → put_mid (4 * i) k out bytes ≡ word_bytes (take (i + 1) ws) ++ drop (4 * (i + 1)) old
+words_put out ws old bytes i k h room e eb ek =
+    let lt : length (take i ws) ≡ i = length-take-le i ws (omega arith) in
+    let lw : length (word_bytes (take i ws)) ≡ 4 * i = length_word_bytes (take i ws) ∙ ap (λ (n : ℕ). 4 * n) lt in
+    let next : 4 * i + 4 ≡ 4 * (i + 1) = omega arith in
+    let dr : drop 4 (drop (4 * i) out) ≡ drop (4 * (i + 1)) old =
+    ap (λ (r : List ℕ). drop 4 (drop (4 * i) r)) e
+    ∙ ap (drop 4) (drop_at (word_bytes (take i ws)) (drop (4 * i) old) (4 * i) lw)
+    ∙ drop-drop 4 (4 * i) old
+    ∙ ap (λ (n : ℕ). drop n old) next
+    in
+    let ta : take (4 * i) out ≡ word_bytes (take i ws) = ap (take (4 * i)) e ∙ take_at (word_bytes (take i ws)) (drop (4 * i) old) (4 * i) lw in
+    rw (ek, ta, dr, eb, add-one, take-suc ws i 0 h, words_snoc (take i ws) (get_or ws i 0), append_assoc)
 
-  pub word_more : (ws : List ℕ) → i < length ws → take (4 * i) out ≡ word_bytes (take i ws) → w ≡ get_or ws i 0
-      → take (4 * (i + 1)) (take (4 * i) out ++ bytes_of 4 w ++ drop (4 * i + 4) out) ≡ word_bytes (take (i + 1) ws)
-  word_more ws h e ew =
-      take_at (take (4 * i) out ++ bytes_of 4 w) (drop (4 * i + 4) out) (4 * (i + 1)) up_to_here
-      ∙ ap (λ (r : List ℕ). r ++ bytes_of 4 w) e
-      ∙ sym (words_snoc (take i ws) w)
-      ∙ ap word_bytes (ap (λ (v : ℕ). take i ws ++ (v ∷ [])) ew ∙ sym (take-suc ws i 0 h) ∙ ap (λ (k : ℕ). take k ws) (sym (add-one i)))
+-- what `put` leaves, written to a part of n bytes from a on
+pub put_at : (out new : List ℕ) (a b n x : ℕ) → a + n ≡ b → b ≤ length out → new ≡ bytes_of (length (take (b - a) (drop a out))) x
+    → put_mid a (b - a) out new ≡ take a out ++ bytes_of n x ++ drop (a + n) out
+put_at out new a b n x e h w =
+    let k : b - a ≡ n = omega arith in
+    let l : length (take n (drop a out)) ≡ n = simp (length-take, length-drop) (omega arith) in
+    rw (w, k, l, drop-drop n a out, append_assoc)
 
-  pub word_rest : (rest : List ℕ) → drop (4 * i) out ≡ drop (4 * i) rest
-      → drop (4 * (i + 1)) (take (4 * i) out ++ bytes_of 4 w ++ drop (4 * i + 4) out) ≡ drop (4 * (i + 1)) rest
-  word_rest rest e =
-      let k : 4 * i + 4 ≡ 4 * (i + 1) = omega arith in
-      drop_at (take (4 * i) out ++ bytes_of 4 w) (drop (4 * i + 4) out) (4 * (i + 1)) up_to_here
-      ∙ sym (drop-drop 4 (4 * i) out)
-      ∙ ap (drop 4) e
-      ∙ drop-drop 4 (4 * i) rest
-      ∙ ap (λ (m : ℕ). drop m rest) k
-
--- ---- one word more, for `get_words` and `message_words`
+-- ---- one word more, for `get_words`
 words_more : (n : ℕ) (l : List ℕ) → words_of (suc n) l ≡ words_of n l ++ (number_of (take 4 (drop (4 * n) l)) ∷ [])
 words_more zero l = refl
 words_more (suc n) l =
@@ -90,16 +79,18 @@ words_more (suc n) l =
     (words_more n (drop 4 l)
     ∙ ap (λ (r : List ℕ). words_of n (drop 4 l) ++ (number_of (take 4 r) ∷ [])) (drop-drop (4 * n) 4 l ∙ ap (λ (k : ℕ). drop k l) e))
 
--- in room for m words, the first i of which are read
-pub word_read : (m : ℕ) (l : List ℕ) (i v : ℕ) → i < m → v ≡ number_of (take 4 (drop (4 * i) l))
-    → set (words_of i l ++ replicate (m - i) 0) i v ≡ words_of (i + 1) l ++ replicate (m - (i + 1)) 0
-word_read m l i v h e =
-    let k : m - i ≡ suc (m - (i + 1)) = omega arith in
-    ap (λ (n : ℕ). set (words_of i l ++ replicate n 0) i v) k
-    ∙ set_at (words_of i l) 0 (replicate (m - (i + 1)) 0) v i (length_words i l)
-    ∙ sym (append_snoc (words_of i l) v (replicate (m - (i + 1)) 0))
-    ∙ ap (λ (r : List ℕ). r ++ replicate (m - (i + 1)) 0)
-    (ap (λ (w : ℕ). words_of i l ++ (w ∷ [])) e ∙ sym (words_more i l) ∙ ap (λ (n : ℕ). words_of n l) (sym (add-one i)))
+-- in room for m words, of which ws are there and zeros behind them
+pub one_more : (m i v : ℕ) (ws x : List ℕ) → length ws ≡ i → i < m → x ≡ ws ++ replicate (m - i) 0
+    → set x i v ≡ (ws ++ (v ∷ [])) ++ replicate (m - (i + 1)) 0
+one_more m i v ws x l h e =
+    let r : m - i ≡ suc (m - (i + 1)) = omega arith in
+    rw (e, r, set_at ws 0 (replicate (m - (i + 1)) 0) v i l, append_assoc)
+
+pub word_read : (m : ℕ) (l x : List ℕ) (i k v : ℕ) → i < m → x ≡ words_of i l ++ replicate (m - i) 0 → v ≡ number_of (take k (drop (4 * i) l)) → k ≡ 4
+    → set x i v ≡ words_of (i + 1) l ++ replicate (m - (i + 1)) 0
+word_read m l x i k v h ex ev ek =
+    let more : words_of (i + 1) l ≡ words_of i l ++ (number_of (take 4 (drop (4 * i) l)) ∷ []) = rw add-one (words_more i l) in
+    rw (one_more m i v (words_of i l) x (length_words i l) h ex, more, ev, ek)
 
 -- ---- there and back again
 pub number_bytes : (n x : ℕ) → x < 256 ^ n → number_of (bytes_of n x) ≡ x

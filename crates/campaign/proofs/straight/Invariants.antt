@@ -1,10 +1,7 @@
 -- `campaign::straight` is safe and ends.
 -- Assumes nothing.
-use Prim.Native.Nat.{◌*◌, ◌≤◌, ◌-◌}
+use Prim.Native.Nat.{◌*◌, ◌≤◌}
 use Rattle.campaign.proofs.straight.Given as goal
 
 abbrev pub invariant-loop-i : goal.invariant-loop-i
-invariant-loop-i l = (l.i ≤ 14400) × (l.total ≤ 96 * l.i)
-
-abbrev pub decreases-loop-i : goal.decreases-loop-i
-decreases-loop-i l = 14400 - l.i
+invariant-loop-i l = l.total ≤ 96 * l.i

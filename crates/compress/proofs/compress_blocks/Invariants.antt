@@ -1,12 +1,16 @@
--- `compress::compress_blocks` meets its contract: h is the chain over the first i blocks.
+-- `compress::compress_blocks` meets its contract: h is the chain over the blocks so far, and what follows them is left.
 -- Assumes nothing.
-use Prim.Native.Nat.{◌≤◌, ◌-◌}
 use mathlib.Core.Path.{◌≡◌}
+use Prim.Native.Nat.{◌*◌, ◌≤◌}
+use lib.ListN.{length, drop}
 use Rattle.compress.specs.Block.{blocks_of}
 use Rattle.compress.proofs.compress_blocks.Given as goal
 
-abbrev pub invariant-loop-i : goal.invariant-loop-i
-invariant-loop-i l = (l.i ≤ l.n) × (l.h ≡ blocks_of l.w l.initial.h l.s l.i)
-
-abbrev pub decreases-loop-i : goal.decreases-loop-i
-decreases-loop-i l = l.n - l.i
+abbrev pub invariant-loop-block : goal.invariant-loop-block
+invariant-loop-block l =
+    record {
+      chain : l.h ≡ blocks_of l.w l.initial.h l.s (length l.yielded);
+      size : l.block-iterator.size ≡ 64;
+      left : l.block-iterator.rest.now ≡ drop (64 * length l.yielded) l.s;
+      within : 64 * length l.yielded ≤ length l.s;
+    }

@@ -13,18 +13,6 @@ use Rattle.lines.proofs.line_step.Goals as goal
 in_80 : (z : Size) (j : ℕ) → j < 16 * count_of z → j < 80
 in_80 z j h = omega (arith, at_most_five z)
 
-pub offset_bounds-r-j : goal.offset_bounds-r-j
-offset_bounds-r-j c = omega (arith, at_most_five c.args.z)
-
-pub bounds-r-j : goal.bounds-r-j
-bounds-r-j c = omega (arith, at_most_five c.args.z)
-
-pub offset_bounds-s-j : goal.offset_bounds-s-j
-offset_bounds-s-j c = omega (arith, at_most_five c.args.z)
-
-pub bounds-s-j : goal.bounds-s-j
-bounds-s-j c = omega (arith, at_most_five c.args.z)
-
 pub offset_bounds-x-i : goal.offset_bounds-x-i
 offset_bounds-x-i c =
     omega (arith, c.requires.tables.order.at c.args.j (in_80 c.args.z c.args.j c.requires.in_range))

@@ -27,7 +27,6 @@ returns-in-Five c =
     let h : length a.v ≡ 5 = search rules in
     rw (
       c.rol.ensures,
-      c.add.ensures,
       c.place-e.ensures.0,
       c.mix-m.ensures,
       c.place-d.ensures.0,

@@ -11,23 +11,19 @@ use Rattle.lines.proofs.walk.Goals as goal
 
 pub loop-j-init : goal.loop-j-init
 loop-j-init c =
-    let e : c.args.from - c.args.from ≡ 0 = omega arith in
-    rw e (omega arith, (omega arith, (run_zero c.args.z Left c.args.x.now c.args.from c.args.p.left (search rules), run_zero c.args.z Right c.args.x.now c.args.from c.args.p.right (search rules))))
-
-pub line_step-y-requires : goal.line_step-y-requires
-line_step-y-requires c = record { in_range = omega arith; tables = c.requires.left_tables }
-
-pub line_step-u-requires : goal.line_step-u-requires
-line_step-u-requires c = record { in_range = omega arith; tables = c.requires.right_tables }
+    let a = c.args in
+    let e : a.from - a.from ≡ 0 = omega arith in
+    rw e (run_zero a.z Left a.x.now a.from a.p.left (search rules), run_zero a.z Right a.x.now a.from a.p.right (search rules))
 
 pub loop-j-preserved : goal.loop-j-preserved
 loop-j-preserved c =
     let a = c.args in
-    let more = run_more a.z a.x.now a.from c.loop-j.j (omega arith) in
-    (omega arith, (omega arith, (rw (c.line_step-y.ensures, c.loop-j.invariant.1.1.0) (more Left _), rw (c.line_step-u.ensures, c.loop-j.invariant.1.1.1) (more Right _))))
+    let l = c.loop-j in
+    let more = run_more a.z a.x.now a.from l.j (omega arith) in
+    (rw (c.line_step-y.ensures, l.invariant.0) (more Left _), rw (c.line_step-u.ensures, l.invariant.1) (more Right _))
 
 pub returns : goal.returns
 returns c =
     let a = c.args in
     let e : c.loop-j.j ≡ a.to = omega arith in
-    rw (walk_runs a.z a.x.now a.from (a.to - a.from) a.p, c.loop-j.invariant.1.1.0, c.loop-j.invariant.1.1.1, e)
+    rw (walk_runs a.z a.x.now a.from (a.to - a.from) a.p, c.loop-j.invariant.0, c.loop-j.invariant.1, e)

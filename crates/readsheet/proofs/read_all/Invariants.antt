@@ -1,13 +1,10 @@
--- `readsheet::read_all` meets its contract. The loop's bytes are some message of fewer than 256, which is longer after each turn.
--- Assumes nothing.
-use Prim.Native.Nat.{ℕ, ◌-◌, ◌<◌}
-use mathlib.Core.List.{List}
-use lib.ListN.{length}
-use Rattle.readsheet.proofs.Taken.{Holds}
+-- What is kept is what was read so far, and is longer after each turn.
+use Rattle.std.proofs.Common.{◌-◌, ◌≤◌, length}
+use Rattle.std.specs.Io.KnownBytes.{Consumes}
 use Rattle.readsheet.proofs.read_all.Given as goal
 
-abbrev pub invariant-loop-e : goal.invariant-loop-e
-invariant-loop-e l = (m : List ℕ) × Holds m l.k × (length m < 256)
+abbrev pub invariant-loop-buffer : goal.invariant-loop-buffer
+invariant-loop-buffer g l = (length l.kept ≤ 256) × Consumes (g.R.Read.remaining l.fn.input) (g.R.Read.remaining l.input) l.kept
 
-abbrev pub decreases-loop-e : goal.decreases-loop-e
-decreases-loop-e l = 256 - l.k.length
+abbrev pub decreases-loop-buffer : goal.decreases-loop-buffer
+decreases-loop-buffer g l = 256 - length l.kept

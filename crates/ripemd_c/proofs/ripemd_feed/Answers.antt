@@ -1,26 +1,21 @@
--- `ripemd_c::ripemd_feed` meets its contract.
--- Assumes nothing.
-use mathlib.Core.Path.{◌≡◌, ap, sym, ◌∙◌}
+use Rattle.std.proofs.Common.{ap, sym, ◌∙◌}
+use Rattle.ripemd.specs.Answers.{Fed}
 use Rattle.ripemd.specs.Feed.{feed_of}
 use Rattle.ripemd.specs.declared.State.{State}
-use Rattle.ripemd.specs.declared.Fed.{Fed}
+use Rattle.ripemd.proofs.Answered.{refusal_numbered}
+use Rattle.ripemd_c.specs.Image.{image_of, fed_image}
 use Rattle.ripemd.proofs.Outcomes.{accepted, refused}
-use Rattle.ripemd_c.specs.Image.{state_of, image_of, fed_image}
 use Rattle.ripemd_c.proofs.ripemd_feed.Goals as goal
 
-pub returns-then-number-ne0 : goal.returns-then-number-ne0
+pub returns-in-Ok : goal.returns-in-Ok
 unfolding fed_image
-returns-then-number-ne0 c =
-    let a = c.args in
-    let f : c.feed-f.result ≡ feed_of (state_of a.state.now) a.piece.now = c.feed-f.ensures ∙ ap (λ (s : State). feed_of s a.piece.now) c.state.ensures in
-    let n = ap (λ (x : Fed). x.number) f in
-    (n, sym (refused _ (image_of (feed_of (state_of a.state.now) a.piece.now).state) a.state.now (λ z. c.if-number-ne0.true (n ∙ z))))
+returns-in-Ok c =
+    let e = c.in-Ok.ensures ∙ ap (λ (s : State). feed_of s c.args.piece.now) c.state.ensures in
+    (ap (λ (f : Fed). f.number) e, c.image.ensures ∙ ap (λ (f : Fed). image_of f.state) e ∙ sym (accepted _ _ c.args.state.now (sym (ap (λ (f : Fed). f.number) e))))
 
-pub returns : goal.returns
+pub returns-in-Err : goal.returns-in-Err
 unfolding fed_image
-returns c =
-    let a = c.args in
-    let f : c.feed-f.result ≡ feed_of (state_of a.state.now) a.piece.now = c.feed-f.ensures ∙ ap (λ (s : State). feed_of s a.piece.now) c.state.ensures in
-    let n : (feed_of (state_of a.state.now) a.piece.now).number ≡ 0 = sym (ap (λ (x : Fed). x.number) f) ∙ c.if-number-ne0.false in
-    let i = feed_of (state_of a.state.now) a.piece.now in
-    (sym n, c.image.ensures ∙ ap (λ (x : Fed). image_of x.state) f ∙ sym (accepted _ (image_of i.state) a.state.now n))
+returns-in-Err c =
+    let e = c.in-Err.ensures ∙ ap (λ (s : State). feed_of s c.args.piece.now) c.state.ensures in
+    let n = ap (λ (f : Fed). f.number) e in
+    (c.number.ensures ∙ n, sym (refused _ _ c.args.state.now (λ q. refusal_numbered _ (n ∙ q))))

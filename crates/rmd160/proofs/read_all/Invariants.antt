@@ -1,13 +1,11 @@
--- `rmd160::read_all` meets its contract. The loop's state has taken some message, which is longer after each turn, and stays below 2^61 bytes.
--- Assumes nothing.
-use Prim.Native.Nat.{ℕ, ◌-◌, ◌^◌}
-use mathlib.Core.List.{List}
+-- The state has taken what was read so far. It is longer after each turn, and stays below 2^61 bytes.
+use Rattle.std.proofs.Common.{◌-◌, ◌^◌}
 use Rattle.ripemd.specs.State.{taken_of}
-use Rattle.rmd160.specs.Reading.{Took}
+use Rattle.rmd160.proofs.Taken.{Reads}
 use Rattle.rmd160.proofs.read_all.Given as goal
 
-abbrev pub invariant-loop-e : goal.invariant-loop-e
-invariant-loop-e l = (m : List ℕ) × Took m l.s
+abbrev pub invariant-loop-n : goal.invariant-loop-n
+invariant-loop-n g l = Reads (g.R.Read.remaining l.fn.input) (g.R.Read.remaining l.input) l.s
 
-abbrev pub decreases-loop-e : goal.decreases-loop-e
-decreases-loop-e l = 2 ^ 61 - taken_of l.s
+abbrev pub decreases-loop-n : goal.decreases-loop-n
+decreases-loop-n g l = 2 ^ 61 - taken_of l.s

@@ -1,37 +1,27 @@
 -- `shape::along` meets its contract.
 -- Assumes nothing.
-use Prim.Native.Nat.{◌+◌}
-use mathlib.Core.Path.{◌≡◌}
-use native.Mathlib.Omega.{arith}
-use lib.ListN.{drop}
-use Rattle.shape.proofs.Loops.{along_more, along_other, along_out, along_all}
+use mathlib.Core.Path.{◌∙◌}
+use Prim.Native.Nat.{ℕ}
+use borrow.Author.Rules.{rules}
+use borrow.Author.Tests.{tests}
+use lib.Dec.{eqb}
+use Rattle.std.specs.List.{zip}
+use Rattle.std.proofs.lemmas.Iterator.{YieldsList-from_slice, YieldsList-from_zip}
+use Rattle.std.proofs.lemmas.Iterator.Consumers.{count_from_yields_List}
+use Rattle.std.proofs.lemmas.Iterator.Search.{YieldsList-from_take_while}
+use Rattle.std.proofs.lemmas.List.Folds.{length-prefix_len}
+use Rattle.shape.proofs.Loops.{along_zip}
 use Rattle.shape.proofs.along.Goals as goal
-
-pub loop-j-init : goal.loop-j-init
-loop-j-init c = let a = c.args in
-    let e : a.at + 0 ≡ a.at = omega arith in
-    (omega arith, rw e (omega arith))
-
-pub returns-then-s-at : goal.returns-then-s-at
-returns-then-s-at c =
-    let a = c.args in
-    let j = c.loop-j.j in
-    omega (arith, along_out a.text.now a.s.now a.at j (omega arith) (omega arith))
-
-pub returns-then-s-at-2 : goal.returns-then-s-at-2
-returns-then-s-at-2 c =
-    let a = c.args in
-    let j = c.loop-j.j in
-    omega (arith, along_other a.text.now a.s.now a.at j (omega arith) (omega arith) c.if-s-at-2.true)
-
-pub loop-j-preserved : goal.loop-j-preserved
-loop-j-preserved c =
-    let a = c.args in
-    let l = c.loop-j in
-    (omega arith, along_more a.text.now a.s.now a.at l.j (omega arith) _ (omega arith) c.if-s-at-2.false l.invariant.1)
 
 pub returns : goal.returns
 returns c =
-    let a = c.args in
-    let j = c.loop-j.j in
-    omega (arith, along_all a.text.now (drop (a.at + j) a.s.now) j (omega arith))
+    let s = c.args.s.now in
+    let t = c.args.text.now in
+    let same = λ (p : ℕ × ℕ). eqb p.0 p.1 in
+    let w = c.take_while in
+    count_from_yields_List w.result _ c.count.ensures.ran
+    (YieldsList-from_take_while _ same
+    (YieldsList-from_zip (YieldsList-from_slice s (cc)) (YieldsList-from_slice t (cc)))
+    w.ensures.closure w.ensures.done (λ x b q k. search (rules, tests)))
+    ∙ length-prefix_len same (zip s t)
+    ∙ along_zip t s

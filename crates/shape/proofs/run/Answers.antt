@@ -1,39 +1,25 @@
 -- `shape::run` meets its contract.
 -- Assumes nothing.
-use Prim.Native.Nat.{◌+◌, ◌-◌}
-use mathlib.Core.Path.{◌≡◌, sym, ◌∙◌}
-use native.Mathlib.Omega.{arith}
-use lib.ListN.{drop}
-use Rattle.shape.proofs.Loops.{run_more, run_other, run_out, run_none}
+use mathlib.Core.Path.{◌∙◌}
+use borrow.Author.Rules.{rules}
+use borrow.Author.Tests.{tests}
+use lib.ListN.{take}
+use Rattle.std.proofs.lemmas.Iterator.{YieldsList-from_slice, YieldsList-from_take}
+use Rattle.std.proofs.lemmas.Iterator.Consumers.{count_from_yields_List}
+use Rattle.std.proofs.lemmas.Iterator.Search.{YieldsList-from_take_while}
+use Rattle.std.proofs.lemmas.List.Folds.{length-prefix_len}
+use Rattle.shape.specs.Shape.{allows_of}
+use Rattle.shape.proofs.Loops.{run_prefix}
 use Rattle.shape.proofs.run.Goals as goal
-
-pub loop-j-init : goal.loop-j-init
-loop-j-init c =
-    let a = c.args in
-    let e : a.at + 0 ≡ a.at = omega arith in
-    let f : a.n - 0 ≡ a.n = omega arith in
-    (omega arith, rw (e, f) (omega arith))
-
-pub returns-then-s-at : goal.returns-then-s-at
-returns-then-s-at c =
-    let a = c.args in
-    let j = c.loop-j.j in
-    omega (arith, run_out a.c a.n a.s.now a.at j (omega arith) (omega arith))
-
-pub returns-then-not-allows : goal.returns-then-not-allows
-returns-then-not-allows c =
-    let a = c.args in
-    let j = c.loop-j.j in
-    omega (arith, run_other a.c a.n a.s.now a.at j (omega arith) (omega arith) (sym c.allows.ensures ∙ c.if-not-allows.true))
-
-pub loop-j-preserved : goal.loop-j-preserved
-loop-j-preserved c =
-    let a = c.args in
-    let l = c.loop-j in
-    (omega arith, run_more a.c a.n a.s.now a.at l.j (omega arith) _ (omega arith) (sym c.allows.ensures ∙ c.if-not-allows.false) l.invariant.1)
 
 pub returns : goal.returns
 returns c =
     let a = c.args in
-    let j = c.loop-j.j in
-    omega (arith, run_none a.c a.n j (drop (a.at + j) a.s.now) (omega arith))
+    let s = a.s.now in
+    let w = c.take_while in
+    count_from_yields_List w.result _ c.count.ensures.ran
+    (YieldsList-from_take_while _ (allows_of a.c)
+    (YieldsList-from_take a.n (YieldsList-from_slice s (cc)) (cc))
+    w.ensures.closure w.ensures.done (λ x b q k. search (rules, tests)))
+    ∙ length-prefix_len (allows_of a.c) (take a.n s)
+    ∙ run_prefix a.c a.n s

@@ -15,16 +15,10 @@ loop-rest-init c =
     let none : drop 20 c.args.room.now ≡ [] = drop_of_length-le c.args.room.now {i = 20} (omega arith) in
     (omega arith, omega arith, omega arith, rw (none, append-nil))
 
-pub overflow_sub-first : goal.overflow_sub-first
-overflow_sub-first c = let l = c.loop-rest in not_first l.first l.rest c.loop-rest-test.true l.invariant.2
-
-pub loop-rest-smaller : goal.loop-rest-smaller
-loop-rest-smaller c = let p = not_first c.loop-rest.first c.loop-rest.rest c.loop-rest-test.true c.loop-rest.invariant.2 in omega arith
-
 pub loop-rest-preserved : goal.loop-rest-preserved
 loop-rest-preserved c =
     let l = c.loop-rest in
-    let p = not_first c.loop-rest.first c.loop-rest.rest c.loop-rest-test.true c.loop-rest.invariant.2 in
+    let p = not_first l.first l.rest c.loop-rest-test.true l.invariant.2 in
     let e : suc (l.first - 1) ≡ l.first = omega arith in (
       omega arith,
       simp length-set l.invariant.1,
@@ -32,10 +26,5 @@ loop-rest-preserved c =
       digit_more l.room l.first l.rest (omega arith) (suc (l.first - 1)) e c.loop-rest-test.true ∙ l.invariant.3,
     )
 
-pub shape_of-room : goal.shape_of-room
-shape_of-room c = simp length-set (omega arith)
-
 pub returns : goal.returns
-returns c =
-    let l = c.loop-rest in
-    (omega arith, digit_first l.room l.first l.rest (omega arith) c.loop-rest-test.false ∙ l.invariant.3)
+returns c = grind (arith, digit_first)

@@ -11,4 +11,4 @@ returns c =
     let s = c.args.s in
     let e : s % 32 ≡ s = omega arith in
     let g : (32 - s) % 32 ≡ 32 - s = omega arith in
-    rw (e, g) (rol_law c.args.x s (omega arith) c.ranges.x.fits)
+    rw (c.rotate_left.ensures, e, g) (rol_law c.args.x s (omega arith) c.ranges.x.fits)

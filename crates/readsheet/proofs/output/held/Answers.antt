@@ -1,29 +1,30 @@
 -- `readsheet::output::held` meets its contract.
 -- Assumes nothing.
-use mathlib.Core.Path.{◌≡◌, refl, ap, ◌∙◌}
+use mathlib.Core.Path.{◌≡◌, ◌∙◌}
+use mathlib.Core.List.{[], ◌∷◌, append_assoc}
+use Rattle.std.proofs.Common.{rules, length}
 use native.Mathlib.Omega.{arith}
-use lib.ListN.{length, length-append}
+use lib.ListN.{length-append}
+use Rattle.ripemd.specs.State.{taken_of}
 use Rattle.text.specs.Text.{ascii, decimal_of}
-use Rattle.text.proofs.Placed.{within, none, more, decimal_long}
+use Rattle.text.proofs.Numbers.{decimal_long}
+use Rattle.text.proofs.Appended.{in_turn, in_turn-all}
+use Rattle.sheet.specs.Sheet.{name_of}
 use Rattle.readsheet.specs.Lines.{held_line}
-use Rattle.readsheet.proofs.Numbers.{name_long}
 use Rattle.readsheet.proofs.output.held.Goals as goal
 
 pub returns : goal.returns
 unfolding held_line
 returns c =
-    let s = c.args.s in
-    let lw : length c.name-width.result ≡ 3 = ap length c.name-width.ensures ∙ name_long s.width in
-    let dt = decimal_long c.bytes_taken-taken.result.0 in
+    let s = c.args.s.state.now in
+    let three : length c.name.result ≡ 3 = search rules in
+    let n : length (name_of s.width) ≡ 3 = rw (← c.name.ensures) three in
+    let dt = decimal_long (taken_of s) in
     let dc = decimal_long s.count.0 in
     let df = decimal_long s.fill in
-    let p₁ = more (none {m = 96} _ refl) (ascii "width=") (omega arith) _ _ c.bytes-a.ensures in
-    let p₂ = more p₁ c.name-width.result (simp length-append (omega arith)) _ _ c.bytes-b.ensures in
-    let p₃ = more p₂ (ascii " bytes=") (simp length-append (omega arith)) _ _ c.bytes-c.ensures in
-    let p₄ = more p₃ (decimal_of c.bytes_taken-taken.result.0) (simp length-append (omega arith)) _ _ c.decimal-d.ensures in
-    let p₅ = more p₄ (ascii " blocks=") (simp length-append (omega arith)) _ _ c.bytes-e.ensures in
-    let p₆ = more p₅ (decimal_of s.count.0) (simp length-append (omega arith)) _ _ c.decimal-f.ensures in
-    let p₇ = more p₆ (ascii " fill=") (simp length-append (omega arith)) _ _ c.bytes-g.ensures in
-    let p₈ = more p₇ (decimal_of s.fill) (simp length-append (omega arith)) _ _ c.decimal-h.ensures in
-    let p₉ = more p₈ (ascii "\n") (simp length-append (omega arith)) _ _ c.bytes-i.ensures in
-    (within p₉ (simp length-append (omega arith)), p₉.is ∙ rw (c.bytes_taken-taken.ensures, c.name-width.ensures))
+    let parts =
+    ascii "width=" ∷ name_of s.width ∷ ascii " bytes=" ∷ decimal_of (taken_of s) ∷ ascii " blocks=" ∷ decimal_of s.count.0
+    ∷ ascii " fill=" ∷ decimal_of s.fill ∷ ascii "\n" ∷ []
+    in
+    let put : c.bytes-6.new.self ≡ in_turn 96 [] parts = cc in
+    put ∙ in_turn-all 96 parts (simp length-append (omega arith)) ∙ simp append_assoc

@@ -1,10 +1,12 @@
 -- `readsheet::output::misshaped` meets its contract.
 -- Assumes nothing.
-use mathlib.Core.Path.{refl}
+use mathlib.Core.Path.{◌≡◌, ◌∙◌}
+use mathlib.Core.List.{[], ◌∷◌, append_assoc}
 use native.Mathlib.Omega.{arith}
 use lib.ListN.{length-append}
 use Rattle.text.specs.Text.{ascii, decimal_of}
-use Rattle.text.proofs.Placed.{within, none, more, decimal_long}
+use Rattle.text.proofs.Numbers.{decimal_long}
+use Rattle.text.proofs.Appended.{in_turn, in_turn-all}
 use Rattle.readsheet.specs.Lines.{place_line}
 use Rattle.readsheet.proofs.output.misshaped.Goals as goal
 
@@ -14,9 +16,6 @@ returns c =
     let a = c.args in
     let dp = decimal_long a.place in
     let dl = decimal_long a.line in
-    let p₁ = more (none {m = 96} _ refl) (ascii "error=8 place=") (omega arith) _ _ c.bytes-a.ensures in
-    let p₂ = more p₁ (decimal_of a.place) (simp length-append (omega arith)) _ _ c.decimal-b.ensures in
-    let p₃ = more p₂ (ascii " line=") (simp length-append (omega arith)) _ _ c.bytes-c.ensures in
-    let p₄ = more p₃ (decimal_of a.line) (simp length-append (omega arith)) _ _ c.decimal-d.ensures in
-    let p₅ = more p₄ (ascii "\n") (simp length-append (omega arith)) _ _ c.bytes-e.ensures in
-    (within p₅ (simp length-append (omega arith)), p₅.is)
+    let parts = ascii "error=8 place=" ∷ decimal_of a.place ∷ ascii " line=" ∷ decimal_of a.line ∷ ascii "\n" ∷ [] in
+    let put : c.bytes-3.new.self ≡ in_turn 96 [] parts = cc in
+    put ∙ in_turn-all 96 parts (simp length-append (omega arith)) ∙ simp append_assoc

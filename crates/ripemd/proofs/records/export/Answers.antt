@@ -1,72 +1,46 @@
--- `ripemd::records::export` meets its contract.
--- Assumes nothing.
-use mathlib.Core.Path.{◌≡◌, sym, ap, ◌∙◌}
-use mathlib.Core.List.{◌++◌}
-use Prim.Native.Nat.{ℕ, ◌+◌, ◌*◌}
-use native.Mathlib.Omega.{arith}
-use borrow.Author.Tests.{ne_eqb}
-use lib.ListN.{length, take, drop}
+use Rattle.std.proofs.Common.{arith, ℕ, rules, ap, sym, ◌∙◌, ◌≡◌, ◌+◌, ◌*◌, ◌++◌, length, take, drop}
+use lib.Seq.{length-take-le}
+use Rattle.std.proofs.lemmas.Result.{err_from_is_err_and}
 use Rattle.words.specs.Bytes.{bytes_of, word_bytes}
+use Rattle.words.proofs.Numbers.{put_at}
 use Rattle.compress.specs.Block.{used_of}
 use Rattle.compress.proofs.Kept.{used_le}
-use Rattle.ripemd.specs.State.{fault_of, index_of, answer_of}
-use Rattle.ripemd.specs.Record.{record_length, record_of, export_number, export_bytes}
-use Rattle.ripemd.proofs.Outcomes.{accepted, refused}
-use Rattle.ripemd.proofs.Calls.{export_fault, export_right, export_part}
+use Rattle.ripemd.specs.Record.{record_length}
+use Rattle.ripemd.specs.State.{fault_of}
+use Rattle.ripemd.proofs.Answered.{export_faulty, export_other, export_pending, export_done}
 use Rattle.ripemd.proofs.Recorded.{record_whole}
-use borrow.Author.Rules.{rules}
 use Rattle.ripemd.proofs.records.export.Goals as goal
 
-pub returns-then-number-ne0 : goal.returns-then-number-ne0
-unfolding export_bytes
-returns-then-number-ne0 c =
-    let a = c.args in
-    let f = c.fault_number-number.ensures in
-    let n : fault_of a.s ≡ 0 → ⊥ = λ q. c.if-number-ne0.true (f ∙ q) in
-    let e = export_fault a.s n (length a.out.now) in
-    (c.answer.ensures ∙ ap (answer_of a.s) (f ∙ sym e), sym (refused _ (record_of a.s) a.out.now (λ q. n (sym e ∙ q))))
-
-pub overflow_mul-used : goal.overflow_mul-used
-overflow_mul-used c = omega (arith, used_le c.args.s.width, c.used-used.ensures)
-
-pub overflow_add-used : goal.overflow_add-used
-overflow_add-used c = omega (arith, used_le c.args.s.width, c.used-used.ensures)
+pub returns-in_err-try_from : goal.returns-in_err-try_from
+returns-in_err-try_from c =
+    let p = err_from_is_err_and c.from_residual.result c.from_residual.ensures.1 in
+    rw (p.1, p.2) (export_faulty c.args.s _ c.in_err-try_from.ensures c.args.out.now)
 
 pub returns-then-out-used : goal.returns-then-out-used
-unfolding export_number export_bytes index_of
 returns-then-out-used c =
-    let a = c.args in
-    let e : 3 ≡ export_number a.s (length a.out.now) =
-    simp (sym c.fault_number-number.ensures ∙ c.if-number-ne0.false, ne_eqb (length a.out.now) (record_length a.s.width) (λ q. c.if-out-used.true (omega (arith, c.used-used.ensures))))
-    in
-    (ap (answer_of a.s) e, sym (refused _ (record_of a.s) a.out.now (λ q. omega (arith, e ∙ q))))
+    export_other c.args.s (ap fault_of (sym c.in_ok-try_from.ensures) ∙ c.in_ok-try_from.field-0.sound) c.args.out.now (λ q. c.if-out-used.true (rw c.used-used.ensures q))
 
-pub returns-then-fill-ne0 : goal.returns-then-fill-ne0
-unfolding export_bytes index_of
-returns-then-fill-ne0 c =
-    let a = c.args in
-    let e = export_part a.s (sym c.fault_number-number.ensures ∙ c.if-number-ne0.false) (length a.out.now) (omega (arith, c.used-used.ensures, c.if-out-used.false)) c.if-fill-ne0.true in
-    (ap (answer_of a.s) (sym e), sym (refused _ (record_of a.s) a.out.now (λ q. omega (arith, sym e ∙ q))))
-
-pub put_words-requires : goal.put_words-requires
-put_words-requires c =
-    omega (arith, used_le c.args.s.width, c.used-used.ensures, c.if-out-used.false)
+pub returns-then-s-ne0 : goal.returns-then-s-ne0
+returns-then-s-ne0 c =
+    export_pending c.args.s (ap fault_of (sym c.in_ok-try_from.ensures) ∙ c.in_ok-try_from.field-0.sound) c.args.out.now
+    (rw (sym c.used-used.ensures) c.if-out-used.false) c.if-s-ne0.true
 
 pub returns : goal.returns
-unfolding export_bytes index_of
 returns c =
-    let a = c.args in
+    let s = c.args.s in
     let u = c.used-used.ensures in
-    let lw : length a.s.words ≡ 10 = search rules in
-    let n : length a.out.now ≡ record_length a.s.width = omega (arith, u, c.if-out-used.false) in
-    let e = export_right a.s (sym c.fault_number-number.ensures ∙ c.if-number-ne0.false) (length a.out.now) n c.if-fill-ne0.false in
+    let o = c.args.out.now in
+    let n : length o ≡ record_length s.width = rw (sym u) c.if-out-used.false in
+    let d = export_done s (ap fault_of (sym c.in_ok-try_from.ensures) ∙ c.in_ok-try_from.field-0.sound) o n c.if-s-ne0.false in
     let mid = c.put_words.new.out in
-    let m : mid ≡ word_bytes (take (used_of a.s.width) a.s.words) ++ drop (4 * used_of a.s.width) a.out.now =
-    c.put_words.ensures ∙ ap (λ (k : ℕ). word_bytes (take k a.s.words) ++ drop (4 * k) a.out.now) u
-    in (
-      ap (answer_of a.s) (sym e),
-      c.put.ensures
-          ∙ ap (λ (k : ℕ). take (4 * k) mid ++ bytes_of 8 a.s.count.0 ++ drop (4 * k + 8) mid) u
-          ∙ record_whole a.out.now a.s n lw mid m
-          ∙ sym (accepted _ (record_of a.s) a.out.now e),
+    let k : length (take c.used-used.result s.words) ≡ c.used-used.result = length-take-le _ s.words (omega (arith, used_le s.width, u)) in
+    let m : mid ≡ word_bytes (take (used_of s.width) s.words) ++ drop (4 * used_of s.width) o =
+    (rw k at c.put_words.ensures) ∙ ap (λ (k : ℕ). word_bytes (take k s.words) ++ drop (4 * k) o) u
+    in
+    let lm : length mid ≡ length o = search rules in (
+      d.0,
+      put_at mid c.put.new.out (4 * c.used-used.result) (length mid) 8 s.count.0 (omega (arith, n, u)) (omega arith) c.put.ensures
+          ∙ ap (λ (k : ℕ). take (4 * k) mid ++ bytes_of 8 s.count.0 ++ drop (4 * k + 8) mid) u
+          ∙ record_whole o s n (search rules) mid m
+          ∙ d.1,
     )

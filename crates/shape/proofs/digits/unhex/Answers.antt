@@ -1,30 +1,35 @@
 -- `shape::digits::unhex` meets its contract.
 -- Assumes nothing.
-use mathlib.Core.Path.{◌≡◌, refl, ap, ◌∙◌}
+use mathlib.Core.Path.{◌≡◌, ◌∙◌}
+use mathlib.Core.List.{◌++◌}
+use Prim.Native.Nat.{◌+◌, ◌<◌}
 use native.Mathlib.Omega.{arith}
-use Prim.Native.Nat.{◌*◌}
-use lib.ListN.{take, drop, length-set}
-use lib.Seq.{paste}
-use Rattle.words.proofs.Copies.{copy_more, copied}
-use Rattle.shape.specs.Digits.{unhex_of}
-use Rattle.shape.proofs.Loops.{bytes_long, byte_at}
+use borrow.Author.Rules.{rules}
+use lib.ListN.{length, length-append}
+use Rattle.std.specs.Slice.Iter.{chunks_exact_rest, chunks_exact_size}
+use Rattle.shape.proofs.Loops.{Unhexed, unhex_more, unhex_end}
 use Rattle.shape.proofs.digits.unhex.Goals as goal
-
-pub loop-j-init : goal.loop-j-init
-loop-j-init c = (omega arith, omega arith, refl, refl)
 
 pub loop-j-preserved : goal.loop-j-preserved
 loop-j-preserved c =
-    let a = c.args in
+    let s = c.args.s.now in
+    let o = c.args.out.now in
     let l = c.loop-j in
-    let u = unhex_of (take (2 * a.n) (drop a.at a.s.now)) in
-    let v = byte_at a.s.now a.at a.n (omega arith) l.from l.j _ _ (omega arith) l.invariant.1 c.hex_value-high.ensures.0 c.hex_value-low.ensures.0 in
-    (omega arith, omega arith, rw (l.invariant.2, v) (copy_more a.out.now u l.j (omega arith) (omega (arith, bytes_long a.s.now a.at a.n (omega arith)))), simp length-set l.invariant.3)
+    let i = l.j-iterator.iter in
+    let n = c.next.new.self.iter in
+    let p = c.in-Some.pair.now in
+    let to_come = chunks_exact_rest n in
+    let j : c.in-Some.j ≡ l.j-iterator.count = search rules in
+    let more : c.next.new.self.count ≡ l.j-iterator.count + 1 = search rules in
+    let size : chunks_exact_size n ≡ chunks_exact_size i = search rules in
+    let rest : chunks_exact_rest i ≡ p ++ chunks_exact_rest n = search rules in
+    let two : length p ≡ 2 = search rules in
+    let here : Unhexed s o l.out (p ++ to_come) l.j-iterator.count = rw rest at l.invariant.1 in
+    let room : l.j-iterator.count < length l.out = omega (arith, here.far, here.long, length-append p to_come) in
+    (size ∙ l.invariant.0, rw (j, more) (unhex_more s o l.out to_come p l.j-iterator.count _ here two room (cc)))
 
 pub returns : goal.returns
 returns c =
-    let a = c.args in
     let l = c.loop-j in
-    let u = unhex_of (take (2 * a.n) (drop a.at a.s.now)) in
-    let e : l.j ≡ a.n = omega arith in
-    l.invariant.2 ∙ ap (paste a.out.now 0 u) e ∙ copied a.out.now u a.n (bytes_long a.s.now a.at a.n (omega arith))
+    let short : length (chunks_exact_rest l.j-iterator.iter) < 2 = search rules in
+    unhex_end c.args.s.now c.args.out.now l.out (chunks_exact_rest l.j-iterator.iter) l.j-iterator.count l.invariant.1 short

@@ -1,14 +1,11 @@
 -- `shape::digits::unhex` meets its contract.
 -- Assumes nothing.
+use Rattle.std.specs.Slice.Iter.{chunks_exact_rest, chunks_exact_size}
 use mathlib.Core.Path.{◌≡◌}
-use Prim.Native.Nat.{◌+◌, ◌-◌, ◌*◌, ◌≤◌}
-use lib.ListN.{length, take, drop}
-use lib.Seq.{paste}
-use Rattle.shape.specs.Digits.{unhex_of}
+use Rattle.shape.proofs.Loops.{Unhexed}
 use Rattle.shape.proofs.digits.unhex.Given as goal
 
 abbrev pub invariant-loop-j : goal.invariant-loop-j
-invariant-loop-j l = (l.j ≤ l.n) × (l.from ≡ l.at + 2 * l.j) × (l.out ≡ paste l.initial.out 0 (unhex_of (take (2 * l.n) (drop l.at l.s))) l.j) × (length l.out ≡ length l.initial.out)
-
-abbrev pub decreases-loop-j : goal.decreases-loop-j
-decreases-loop-j l = l.n - l.j
+invariant-loop-j l =
+    (chunks_exact_size l.j-iterator.iter ≡ 2)
+    × Unhexed l.s l.initial.out l.out (chunks_exact_rest l.j-iterator.iter) l.j-iterator.count

@@ -1,27 +1,19 @@
--- `sheet::writing::sheet_length` meets its contract.
--- Assumes nothing.
-use mathlib.Core.Path.{◌≡◌, ap, sym, ◌∙◌}
-use lib.ListN.{length}
+use Rattle.std.proofs.Common.{ap, sym, ◌∙◌, List, ℕ, length}
+use Rattle.ripemd.specs.Answers.{Answer}
 use Rattle.ripemd.specs.State.{fault_of}
-use Rattle.ripemd.specs.declared.Answer.{Answer}
+use Rattle.ripemd.specs.declared.State.{State}
+use Rattle.ripemd.proofs.Answered.{fault_numbered}
 use Rattle.ripemd.proofs.Outcomes.{refused}
 use Rattle.sheet.specs.Sheet.{sheet_of, length_of}
 use Rattle.sheet.proofs.Written.{length_is}
 use Rattle.sheet.proofs.writing.sheet_length.Goals as goal
 
-pub returns-then-f-ne0 : goal.returns-then-f-ne0
+pub returns-in-Ok : goal.returns-in-Ok
+returns-in-Ok c =
+    let e = c.in-Ok.ensures in
+    c.len.ensures.0 ∙ ap (λ (l : List ℕ). length l) c.sheet_text.ensures ∙ ap (λ (s : State). length (sheet_of s)) e
+    ∙ sym (length_is c.args.s (ap fault_of (sym e) ∙ c.in-Ok.s.sound))
+
+pub returns-in-Err : goal.returns-in-Err
 unfolding length_of
-returns-then-f-ne0 c =
-    let found : c.fault-f.result.number ≡ fault_of c.args.s = ap (λ (a : Answer). a.number) c.fault-f.ensures in
-    let s = c.args.s in
-    sym (refused (fault_of s) (length (sheet_of s)) 0 (λ q. c.if-f-ne0.true (found ∙ q)))
-
-pub length_of-requires : goal.length_of-requires
-length_of-requires c =
-    let found : c.fault-f.result.number ≡ fault_of c.args.s = ap (λ (a : Answer). a.number) c.fault-f.ensures in
-    sym found ∙ c.if-f-ne0.false
-
-pub returns : goal.returns
-returns c =
-    let found : c.fault-f.result.number ≡ fault_of c.args.s = ap (λ (a : Answer). a.number) c.fault-f.ensures in
-    c.length_of.ensures ∙ sym (length_is c.args.s (sym found ∙ c.if-f-ne0.false))
+returns-in-Err c = sym (refused _ _ 0 (λ q. fault_numbered _ (ap (λ (a : Answer). a.number) c.in-Err.ensures ∙ q)))
