@@ -3,6 +3,7 @@
 use mathlib.Core.Bool.{true, false}
 use mathlib.Core.Path.{◌≡◌, refl, ap, sym, ◌∙◌}
 use mathlib.Core.List.{List, [], ◌∷◌, ◌++◌}
+use mathlib.Core.Logic.{◌⊎◌, inl, inr}
 use Prim.Native.Nat.{ℕ, zero, suc, ◌+◌, ◌-◌, ◌%◌, ◌<◌, ◌≤◌}
 use native.Mathlib.Omega.{arith}
 use native.Mathlib.Numerals.{add-one}
@@ -39,11 +40,23 @@ length_sums : (h : List ℕ) (a : ℕ) (v : List ℕ) (i : ℕ) → length (sums
 length_sums h a v zero = refl
 length_sums h a v (suc i) = rw (length-append, length_sums h a v i) (omega arith)
 
-pub crossed_more : (n : ℕ) (h l r new : List ℕ) (i : ℕ) → i < 10 → new ≡ crossed n h l r i ++ replicate (10 - i) 0
-    → set new i (add_of (add_of (get_or h ((i + 1) % n) 0) (get_or l ((i + 2) % n) 0)) (get_or r ((i + 3) % n) 0)) ≡ crossed n h l r (i + 1) ++ replicate (10 - (i + 1)) 0
-crossed_more n h l r new i b e =
+-- word i, of a word that is x and of the registers at the places b and c
+pub crossed_more : (n : ℕ) (h l r new : List ℕ) (i x b c : ℕ) → i < 10 → x ≡ get_or h ((i + 1) % n) 0 → b ≡ (i + 2) % n → c ≡ (i + 3) % n
+    → new ≡ crossed n h l r i ++ replicate (10 - i) 0
+    → set new i (add_of (add_of x (get_or l b 0)) (get_or r c 0)) ≡ crossed n h l r (i + 1) ++ replicate (10 - (i + 1)) 0
+crossed_more n h l r new i x b c room ex eb ec e =
     let more : crossed n h l r (i + 1) ≡ crossed n h l r (suc i) = ap (crossed n h l r) (add-one i) in
-    one_more 10 i _ (crossed n h l r i) new (length_crossed n h l r i) b e ∙ ap (λ (ws : List ℕ). ws ++ replicate (10 - (i + 1)) 0) (sym more)
+    rw (ex, eb, ec)
+    (one_more 10 i _ (crossed n h l r i) new (length_crossed n h l r i) room e ∙ ap (λ (ws : List ℕ). ws ++ replicate (10 - (i + 1)) 0) (sym more))
+
+-- of words among which the first is chosen, it is that one
+pub first_one : (x k : ℕ) (l : List ℕ) → k ≡ 0 → get_or (x ∷ l) k 0 ≡ x
+first_one x k l e = rw e
+
+-- n registers are four or five
+pub four_or_five : (z : Size) → (count_of z ≡ 4) ⊎ (count_of z ≡ 5)
+four_or_five Four = inl refl
+four_or_five Five = inr refl
 
 pub crossed_all : (z : Size) (h : List ℕ) (p : Both) → crossed (count_of z) h p.left p.right (count_of z) ++ replicate (10 - count_of z) 0 ≡ combine_of (width_from z false) h (names_of z p)
 unfolding combine_of names_of named_pair named
@@ -59,9 +72,10 @@ unfolding combine_of names_of named_pair named
 sums_all Four h p = refl
 sums_all Five h p = refl
 
-pub sums_more : (n : ℕ) (h l r new : List ℕ) (i : ℕ) → i < n → n ≤ 5 → new ≡ both_sums n h l r i
-    → set (set new i (add_of (get_or h i 0) (get_or l i 0))) (n + i) (add_of (get_or h (n + i) 0) (get_or r i 0)) ≡ both_sums n h l r (i + 1)
-sums_more n h l r new i b five e =
+-- sum i of each line, the right line's with the word at place k
+pub sums_more : (n : ℕ) (h l r new : List ℕ) (i k : ℕ) → i < n → n ≤ 5 → k ≡ n + i → new ≡ both_sums n h l r i
+    → set (set new i (add_of (get_or h i 0) (get_or l i 0))) (n + i) (add_of (get_or h k 0) (get_or r i 0)) ≡ both_sums n h l r (i + 1)
+sums_more n h l r new i k b five own e =
     let a : ℕ = add_of (get_or h i 0) (get_or l i 0) in
     let s : ℕ = add_of (get_or h (n + i) 0) (get_or r i 0) in
     let left : List ℕ = sums h 0 l i in
@@ -77,7 +91,8 @@ sums_more n h l r new i b five e =
     let long : length (sums h 0 l (suc i) ++ (between ++ right)) ≡ n + i =
     rw (length-append (sums h 0 l (suc i)) (between ++ right), length_sums h 0 l (suc i)) (simp (length-append, length-replicate, length_sums h n r i) (omega arith))
     in
-    ap (λ (x : List ℕ). set x (n + i) s) first
+    rw own
+    (ap (λ (x : List ℕ). set x (n + i) s) first
     ∙ set_at (sums h 0 l (suc i) ++ (between ++ right)) 0 behind s (n + i) long
     ∙ (simp append_assoc)
-    ∙ ap (both_sums n h l r) (sym (add-one i))
+    ∙ ap (both_sums n h l r) (sym (add-one i)))

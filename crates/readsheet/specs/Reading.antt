@@ -1,10 +1,20 @@
 -- What is known of what was read, and of the program's answer. `old` and `new` are the bytes that the reader has left before and after,
 -- where these are known: of standard input no contract can say them.
 -- Assumes nothing.
-use Rattle.std.specs.Prelude.{ℕ, ◌<◌, ◌≡◌, List, Option, Result, IfOk, IfSome, length, take}
+use Rattle.std.specs.Prelude.{ℕ, ◌-◌, ◌<◌, ◌≡◌, Bool, not, eqb, List, ◌++◌, Option, Result, Ok, Err, IfOk, IfSome, length, take}
 use Rattle.std.specs.Io.KnownBytes.{Consumes, IsAtEnd}
 use Rattle.std.specs.declared.io.Error.{Error}
 use Rattle.readsheet.specs.Lines.{answer_of}
+
+-- what follows a read, of n bytes at the front of its buffer or failed: whether it gave any, else the end of the input is reached; or the failure
+unfoldable pub turn_of : Result ℕ Error → List ℕ → Result Bool Error
+turn_of (Ok n) buffer = Ok (not (eqb (length (take n buffer)) 0))
+turn_of (Err e) buffer = Err e
+
+-- and what is kept then: the piece behind what was, as far as there is room
+unfoldable pub keep_of : List ℕ → Result ℕ Error → List ℕ → List ℕ
+keep_of k (Ok n) buffer = k ++ take (256 - length k) (take n buffer)
+keep_of k (Err e) buffer = k
 
 -- reading took some message, as far as 256 bytes or to the end of the input, and its first 256 bytes are kept
 pub record Heard (old new : Option (List ℕ)) (r : Result (List ℕ) Error) : Type 0 where

@@ -4,7 +4,7 @@
 mod output;
 
 ghost use Rattle.std.specs.Prelude.{◌≡◌};
-ghost use Rattle.readsheet.specs.Reading.{Heard, Answered};
+ghost use Rattle.readsheet.specs.Reading.{turn_of, keep_of, Heard, Answered};
 
 use std::io;
 use std::io::Read;
@@ -13,8 +13,21 @@ use text::Text;
 // The first bytes of the input. A sheet has at most 254, so that no later byte changes the answer.
 pub type Kept = Text<256>;
 
+// What follows a read that answers got, with its buffer: the piece is kept as far as there is room. Whether there was any, or the failure.
+#[tactic(auto, unfolding(crate::specs::Reading::turn_of, crate::specs::Reading::keep_of))]
+fn after_read(kept: &mut Kept, got: io::Result<usize>, buffer: &[u8]) -> io::Result<bool>
+    ensures { (result ≡ turn_of got buffer.now) × (kept.new ≡ keep_of kept.old got buffer.now) }
+{
+    let n = got?;
+    let piece = text::first(buffer, n);
+    if piece.is_empty() {
+        return Ok(false);
+    }
+    kept.bytes(text::first(piece, 256 - kept.len()));
+    Ok(true)
+}
+
 // It ends because each turn that goes on has kept a byte, and there is room for 256.
-#[tactic(auto, using(crate::proofs::Kept::steps))]
 fn read_all<R: Read>(input: &mut R) -> io::Result<Kept>
     ensures { Heard (R.remaining input.old) (R.remaining input.new) result }
 {
@@ -22,11 +35,10 @@ fn read_all<R: Read>(input: &mut R) -> io::Result<Kept>
     let mut buffer = [0; 256];
     while kept.len() < 256 {
         let room = 256 - kept.len();
-        let n = input.read(&mut buffer[..room])?;
-        if n == 0 {
+        let got = input.read(&mut buffer[..room]);
+        if !after_read(&mut kept, got, &buffer)? {
             return Ok(kept);
         }
-        kept.bytes(&buffer[..n]);
     }
     Ok(kept)
 }

@@ -71,6 +71,16 @@ fed_back : (x : Result State (Refused Refusal)) → fed_at (fed x) ≡ x
 fed_back (Ok s) = refl
 fed_back (Err r) = refused_back r.refusal r.state
 
+fault_same : (f : Fault) → fault_at (of_fault f).number (of_fault f).index ≡ f
+fault_same Fill = refl
+fault_same Count = refl
+fault_same (Tail i) = refl
+fault_same (Spare i) = refl
+fault_same Start = refl
+
+pub faults_settle : (f g : Fault) → of_fault f ≡ of_fault g → f ≡ g
+faults_settle f g e = sym (fault_same f) ∙ ap (λ (a : Answer). fault_at a.number a.index) e ∙ fault_same g
+
 pub found_settles : (x y : Option Fault) → of_found x ≡ of_found y → x ≡ y
 found_settles x y e = sym (found_back x) ∙ ap found_at e ∙ found_back y
 

@@ -1,26 +1,24 @@
 -- Laws of the message that was read.
-use Rattle.std.proofs.Common.{ℕ, ◌+◌, ◌-◌, ◌^◌, ◌≤◌, ◌<◌, ◌≡◌, refl, ap, ◌∙◌, arith}
-use Rattle.std.proofs.Common.{Bool, true, false, Option, Result, Ok, Err, IfOk, IfSome}
-use Rattle.std.proofs.Common.{List, [], ◌++◌, length, append-nil, length-append, length-take, take, leb}
+use Rattle.std.proofs.Common.{ℕ, ◌+◌, ◌^◌, ◌≤◌, ◌<◌, ◌≡◌, refl, ap, ◌∙◌, arith}
+use Rattle.std.proofs.Common.{Bool, true, false, Option, None, Some, Result, Ok, Err, IfOk, IfSome}
+use Rattle.std.proofs.Common.{List, [], ◌∷◌, ◌++◌, length, append-nil, length-append, length-take, take, leb}
 use Rattle.std.proofs.lemmas.Bool.{leb-true, leb-false}
-use Rattle.std.proofs.KnownBytes.{Consumes-nil, Consumes-trans, Consumes-whole}
-use Rattle.std.specs.Io.KnownBytes.{Consumes}
+use Rattle.std.proofs.KnownBytes.{Consumes-nil, Consumes-trans, Consumes-kept, Consumes-whole}
+use Rattle.std.specs.Io.KnownBytes.{Keeps, Consumes, IsAtEnd, ReadConsumes}
+use Rattle.std.specs.declared.io.Error.{Error}
 use Rattle.compress.specs.Block.{blocks_of}
 use Rattle.compress.specs.declared.Width.TheVariants.{W160}
-use Rattle.ripemd.specs.Answers.{Fed, fed}
 use Rattle.ripemd.specs.Digest.{published}
 use Rattle.ripemd.specs.Feed.{fed_state, feed_of}
 use Rattle.ripemd.specs.Finish.{digest_of}
 use Rattle.ripemd.specs.State.{taken_of, fault_of, fresh_of}
 use Rattle.ripemd.specs.declared.State.{State}
-use Rattle.ripemd.specs.declared.refusals.Refusal.{Refusal}
-use Rattle.ripemd.specs.declared.refusals.Refused.{Refused}
-use Rattle.ripemd.proofs.Answered.{refusal_numbered}
 use Rattle.ripemd.proofs.Calls.{feed_takes, feed_long, fed_fine, fed_ends}
 use Rattle.ripemd.proofs.Cuts.{fed_twice}
 use Rattle.ripemd.proofs.Kept.{fresh_sound, fed_width, fed_taken}
+use Rattle.rmd160.proofs.Turns.{fed_piece}
 use Rattle.rmd160.specs.Lines.{three_lines, lines_of, written_of, answer_of}
-use Rattle.rmd160.specs.Reading.{Took, Ended, Heard}
+use Rattle.rmd160.specs.Reading.{fed_turn, piece_turn, turn_of, Took, Ended, Heard}
 use Rattle.rmd160.specs.declared.Failure.{Failure}
 use Rattle.rmd160.specs.declared.Failure.TheVariants.{Read, Length}
 
@@ -41,35 +39,21 @@ module _ (m : List ℕ) (s : State) (k : Took m s) where
       let d : digest_of s ≡ published W160 m = ap digest_of k.is ∙ fed_ends W160 m k.short in
       rw (taken, d)
 
+  -- a piece is taken, or makes the message too long
   module _ (p : List ℕ) where
-    pub fed_more : (t : State) → fed (Ok t) ≡ feed_of s p → Took (m ++ p) t
-    fed_more t e = by_test (leb (2 ^ 61) (taken_of s + length p)) refl
-      where
-        by_test : (b : Bool) → leb (2 ^ 61) (taken_of s + length p) ≡ b → Took (m ++ p) t
-        by_test true h =
-            let q = ap (λ (f : Fed). f.number) (e ∙ feed_long s fault p (leb-true (2 ^ 61) (taken_of s + length p) h)) in
-            absurd (omega arith)
-        by_test false h =
-            let l = leb-false (2 ^ 61) (taken_of s + length p) h in
-            let z = fresh_sound W160 in
-            record {
-              short = omega (arith, taken, length-append m p);
-              is =
-                  ap (λ (f : Fed). f.state) (e ∙ feed_takes s fault p l)
-                  ∙ ap (λ (t : State). fed_state t p) k.is
-                  ∙ fed_twice (fresh_of W160) m p z.tail z.well.fill;
-            }
+    fed_more : taken_of s + length p < 2 ^ 61 → Took (m ++ p) (fed_state s p)
+    fed_more l =
+        let z = fresh_sound W160 in
+        record {
+          short = omega (arith, taken, length-append m p);
+          is = ap (λ (t : State). fed_state t p) k.is ∙ fed_twice (fresh_of W160) m p z.tail z.well.fill;
+        }
 
-    pub too_long : (r : Refused Refusal) → fed (Err r) ≡ feed_of s p → 2 ^ 61 ≤ length m + length p
-    too_long r e = by_test (leb (2 ^ 61) (taken_of s + length p)) refl
-      where
-        by_test : (b : Bool) → leb (2 ^ 61) (taken_of s + length p) ≡ b → 2 ^ 61 ≤ length m + length p
-        by_test true h =
-            let l = leb-true (2 ^ 61) (taken_of s + length p) h in
-            omega (arith, taken)
-        by_test false h =
-            let l = leb-false (2 ^ 61) (taken_of s + length p) h in
-            absurd (refusal_numbered r.refusal (ap (λ (f : Fed). f.number) (e ∙ feed_takes s fault p l)))
+    taken_turn : taken_of s + length p < 2 ^ 61 → fed_turn (feed_of s p) ≡ Ok (Some (fed_state s p))
+    taken_turn l = ap fed_turn (feed_takes s fault p l)
+
+    long_turn : 2 ^ 61 ≤ taken_of s + length p → fed_turn (feed_of s p) ≡ Err Length
+    long_turn l = ap fed_turn (feed_long s fault p l)
 
 -- s has taken all that was read
 pub record Reads (old new : Option (List ℕ)) (s : State) : Type 0 where
@@ -81,33 +65,106 @@ pub begun : (a : Option (List ℕ)) → Reads a a (fresh_of W160)
 unfolding fed_state blocks_of
 begun a = record { message = []; took = record { short = omega arith; is = refl }; read = Consumes-nil a }
 
--- a read put n bytes at the front of the buffer x, and they are fed
-module _ (a b : Option (List ℕ)) (s : State) (n : ℕ) (x : List ℕ) (h : Reads a b s) where
-  module _ (c : Option (List ℕ)) (q : Consumes b c (take n x)) where
-    pub further : (t : State) → fed (Ok t) ≡ feed_of s (take n x) → Reads a c t
-    further t e =
-        record {
-          message = h.message ++ take n x;
-          took = fed_more h.message s h.took (take n x) t e;
-          read = Consumes-trans a b c h.message (take n x) h.read q;
-        }
+-- what tells the cases of what follows a read
+abbrev kind : Result (Option State) Failure → ℕ
+kind (Err f) = 0
+kind (Ok None) = 1
+kind (Ok (Some t)) = 2
 
-    pub over : (r : Refused Refusal) → fed (Err r) ≡ feed_of s (take n x) → length x ≡ 4096 → Heard a c (Err Length)
-    over r e l =
+abbrev why : Result (Option State) Failure → Failure
+why (Err f) = f
+why (Ok t) = Read
+
+abbrev next : State → Result (Option State) Failure → State
+next s (Ok (Some t)) = t
+next s (Ok None) = s
+next s (Err f) = s
+
+module _ (a b c : Option (List ℕ)) (s : State) (h : Reads a b s) where
+  -- after a read that gave the piece p
+  module _ (p : List ℕ) (q : Consumes b c p) where
+    -- there was none, or it makes the message too long, or it is taken
+    cases : (P : Type 0) → (p ≡ [] → piece_turn s p ≡ Ok None → P)
+        → (2 ^ 61 ≤ length h.message + length p → piece_turn s p ≡ Err Length → P)
+        → (0 < length p → Took (h.message ++ p) (fed_state s p) → piece_turn s p ≡ Ok (Some (fed_state s p)) → P) → P
+    cases P none long some = by_piece p refl
+      where
+        by_test : (z : Bool) → leb (2 ^ 61) (taken_of s + length p) ≡ z → 0 < length p → P
+        by_test true z l =
+            let n = leb-true (2 ^ 61) (taken_of s + length p) z in
+            long (omega (arith, n, taken h.message s h.took)) (fed_piece s p l ∙ long_turn h.message s h.took p n)
+        by_test false z l =
+            let n = leb-false (2 ^ 61) (taken_of s + length p) z in
+            some l (fed_more h.message s h.took p n) (fed_piece s p l ∙ taken_turn h.message s h.took p n)
+
+        by_piece : (l : List ℕ) → p ≡ l → P
+        by_piece [] g = none g (ap (piece_turn s) g)
+        by_piece (x ∷ l) g = by_test (leb (2 ^ 61) (taken_of s + length p)) refl (omega (arith, ap length g))
+
+    all : Consumes a c (h.message ++ p)
+    all = Consumes-trans a b c h.message p h.read q
+
+    further : (t : State) → Ok (Some t) ≡ piece_turn s p → Reads a c t × (taken_of s < taken_of t)
+    further t e =
+        cases (Reads a c t × (taken_of s < taken_of t)) (λ g n. absurd (omega (arith, ap kind (e ∙ n)))) (λ g n. absurd (omega (arith, ap kind (e ∙ n))))
+        (λ l k n.
+        let u : t ≡ fed_state s p = ap (next s) (e ∙ n) in
+        rw u (
+          record { message = h.message ++ p; took = k; read = all },
+          omega (arith, l, taken h.message s h.took, taken (h.message ++ p) (fed_state s p) k, length-append h.message p),
+        ))
+
+    over : (f : Failure) → Err f ≡ piece_turn s p → length p ≤ 4096 → Heard a c (Err f)
+    over f e room =
+        cases (Heard a c (Err f)) (λ g n. absurd (omega (arith, ap kind (e ∙ n))))
+        (λ l n.
+        let u : f ≡ Length = ap why (e ∙ n) in
+        rw u record { message = h.message; piece = p; short = h.took.short; room = room; read = all; ended = l })
+        (λ l k n. absurd (omega (arith, ap kind (e ∙ n))))
+
+    at_end : Ok None ≡ piece_turn s p → (p ≡ [] → IsAtEnd c) → Heard a c (Ok s)
+    at_end e end =
+        cases (Heard a c (Ok s))
+        (λ g n.
         record {
           message = h.message;
-          piece = take n x;
+          piece = p;
           short = h.took.short;
-          room = omega (arith, length-take n x);
-          read = Consumes-trans a b c h.message (take n x) h.read q;
-          ended = too_long h.message s h.took (take n x) r e;
-        }
+          room = omega (arith, ap length g);
+          read = all;
+          ended = (h.took, g, end g);
+        })
+        (λ l n. absurd (omega (arith, ap kind (e ∙ n)))) (λ l k n. absurd (omega (arith, ap kind (e ∙ n))))
 
-  pub fewer : (t : State) → fed (Ok t) ≡ feed_of s (take n x) → n ≤ length x → (n ≡ 0 → ⊥) → 2 ^ 61 - taken_of t < 2 ^ 61 - taken_of s
-  fewer t e l some =
-      let k = fed_more h.message s h.took (take n x) t e in
-      let longer = length-append h.message (take n x) in
-      omega (arith, taken h.message s h.took, taken (h.message ++ take n x) t k, k.short, longer, length-take n x)
+  failed : (f : Failure) → ◌≡◌ {A = Result (Option State) Failure} (Err f) (Err Read) → Keeps b c → Heard a c (Err f)
+  failed f e q =
+      let u : f ≡ Read = ap why e in
+      rw u
+      record {
+        message = h.message;
+        piece = [];
+        short = h.took.short;
+        room = omega arith;
+        read = all [] (Consumes-kept b b c [] (Consumes-nil b) q);
+        ended = refl;
+      }
+
+  -- after a read with the buffer x
+  module _ (x : List ℕ) (l : length x ≡ 4096) where
+    pub went_on : (got : Result ℕ Error) → ReadConsumes b c got x → (t : State) → Ok (Some t) ≡ turn_of s got x → Reads a c t × (taken_of s < taken_of t)
+    unfolding turn_of
+    went_on (Ok n) q t e = further (take n x) q.0 t e
+    went_on (Err y) q t e = absurd (omega (arith, ap kind e))
+
+    pub stopped : (got : Result ℕ Error) → ReadConsumes b c got x → (f : Failure) → Err f ≡ turn_of s got x → Heard a c (Err f)
+    unfolding turn_of
+    stopped (Ok n) q f e = over (take n x) q.0 f e (omega (arith, length-take n x))
+    stopped (Err y) q f e = failed f e q
+
+    pub done : (got : Result ℕ Error) → ReadConsumes b c got x → Ok None ≡ turn_of s got x → Heard a c (Ok s)
+    unfolding turn_of
+    done (Ok n) q e = at_end (take n x) q.0 e (λ g. q.1 (omega (arith, ap length g, length-take n x, l)) (omega (arith, l)))
+    done (Err y) q e = absurd (omega (arith, ap kind e))
 
 module _ (m p : List ℕ) (new : Option (List ℕ)) where
   pub sound : (r : Result State Failure) → Ended m p new r → IfOk r (λ s. (fault_of s ≡ 0) × (s.width ≡ W160))
@@ -129,4 +186,4 @@ module _ (m p : List ℕ) (new : Option (List ℕ)) where
       Consumes-whole old new m (λ xs. written_of (Ok s) ≡ answer_of (Ok s) xs) (rw all at q) e.2 (written (Ok s) e)
   whole old (Err f) q e = tt
 
-pub ruleset steps = (begun, further)
+pub ruleset steps = begun

@@ -1,15 +1,31 @@
 -- What is known of what was read, and of the program's answer. `old` and `new` are the bytes that the reader has left before and after,
 -- where these are known: of standard input no contract can say them.
 -- Assumes nothing.
-use Rattle.std.specs.Prelude.{ℕ, ◌+◌, ◌^◌, ◌<◌, ◌≤◌, ◌≡◌, List, [], ◌++◌, Option, Result, Ok, Err, IfOk, IfSome, length}
+use Rattle.std.specs.Prelude.{ℕ, ◌+◌, ◌^◌, ◌<◌, ◌≤◌, ◌≡◌, List, [], ◌∷◌, ◌++◌, cond, eqb, Option, None, Some, Result, Ok, Err, IfOk, IfSome, length, take}
 use Rattle.std.specs.Io.KnownBytes.{Consumes, IsAtEnd}
+use Rattle.std.specs.declared.io.Error.{Error}
 use Rattle.compress.specs.declared.Width.TheVariants.{W160}
 use Rattle.ripemd.specs.State.{fresh_of}
-use Rattle.ripemd.specs.Feed.{fed_state}
+use Rattle.ripemd.specs.Answers.{Fed}
+use Rattle.ripemd.specs.Feed.{fed_state, feed_of}
 use Rattle.ripemd.specs.declared.State.{State}
 use Rattle.rmd160.specs.Lines.{answer_of}
 use Rattle.rmd160.specs.declared.Failure.{Failure}
 use Rattle.rmd160.specs.declared.Failure.TheVariants.{Read, Length}
+
+-- a piece that feed refuses makes the message too long
+abbrev pub fed_turn : Fed → Result (Option State) Failure
+fed_turn f = cond (eqb f.number 0) (Ok (Some f.state)) (Err Length)
+
+-- a read that gives no byte is the end of the input
+abbrev pub piece_turn : State → List ℕ → Result (Option State) Failure
+piece_turn s [] = Ok None
+piece_turn s (b ∷ bs) = fed_turn (feed_of s (b ∷ bs))
+
+-- what follows a read, of n bytes at the front of its buffer or failed, whatever the reason
+unfoldable pub turn_of : State → Result ℕ Error → List ℕ → Result (Option State) Failure
+turn_of s (Ok n) buffer = piece_turn s (take n buffer)
+turn_of s (Err e) buffer = Err Read
 
 -- s is the fresh state, fed the message m
 pub record Took (m : List ℕ) (s : State) : Type 0 where

@@ -5,7 +5,7 @@ mod output;
 
 ghost use Rattle.std.specs.Prelude.{◌≡◌};
 ghost use Rattle.rmd160.specs.declared.Failure.TheVariants.{Read, Length};
-ghost use Rattle.rmd160.specs.Reading.{Heard, Answered};
+ghost use Rattle.rmd160.specs.Reading.{turn_of, Heard, Answered};
 
 use ripemd::{Refusal, Refused, State, Width};
 use std::io;
@@ -37,6 +37,19 @@ impl From<Refused<Refusal>> for Failure {
     }
 }
 
+// What follows a read that answers got, with its buffer: the state that took the piece, none at the end of the input, or a failure.
+#[tactic(auto, using(crate::proofs::Turns::steps))]
+fn after_read(s: State, got: io::Result<usize>, buffer: &[u8]) -> Result<Option<State>, Failure>
+    ensures { result ≡ turn_of s got buffer.now }
+{
+    let n = got?;
+    let piece = text::first(buffer, n);
+    if piece.is_empty() {
+        return Ok(None);
+    }
+    Ok(Some(ripemd::feed(s, piece)?))
+}
+
 // It ends because each turn that goes on has taken a byte, and no state takes 2^61: so each program has its loop, and none is passed a closure.
 #[tactic(auto, using(crate::proofs::Taken::steps))]
 fn read_all<R: Read>(input: &mut R) -> Result<State, Failure>
@@ -45,11 +58,11 @@ fn read_all<R: Read>(input: &mut R) -> Result<State, Failure>
     let mut s = ripemd::fresh(Width::W160);
     let mut buffer = [0; 4096];
     loop {
-        let n = input.read(&mut buffer)?;
-        if n == 0 {
-            return Ok(s);
+        let got = input.read(&mut buffer);
+        match after_read(s, got, &buffer)? {
+            Some(next) => s = next,
+            None => return Ok(s),
         }
-        s = ripemd::feed(s, &buffer[..n])?;
     }
 }
 

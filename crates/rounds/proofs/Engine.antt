@@ -8,6 +8,7 @@ use native.Mathlib.Omega.{arith}
 use lib.ListN.{length}
 use Rattle.tables.specs.Rule.{count_of}
 use Rattle.tables.specs.declared.Size.{Size}
+use Rattle.tables.specs.declared.Size.TheVariants.{Four, Five}
 use Rattle.lines.specs.Steps.{Pair, pair_steps}
 use Rattle.lines.specs.Places.{named_pair, placed_pair, walk_of}
 use Rattle.lines.specs.declared.Both.{Both}
@@ -20,6 +21,14 @@ after_placed : (z : Size) (e : Bool) (n : ℕ) → n < count_of z → (q : Pair)
 unfolding exchanged_after
 after_placed z true n h q = exchange_placed z n h q
 after_placed z false n h q = refl
+
+pub at_least_four : (z : Size) → 4 ≤ count_of z
+at_least_four Four = omega arith
+at_least_four Five = omega arith
+
+-- what follows round n, where the place exchanged is k
+pub own_place : (x : Bool) (n k : ℕ) (p q r : Both) → r ≡ exchanged_after x k q → k ≡ n → q ≡ p → r ≡ exchanged_after x n p
+own_place x n k p q r e own walked = e ∙ rw (own, walked) refl
 
 -- n rounds at the places
 abbrev pub rounds_at : Size → Bool → List ℕ → ℕ → Both → Both

@@ -28,12 +28,22 @@ fn sheet_text(s: WellFormed) -> Text<254>
     sheet
 }
 
+// How long the sheet of s is. Told from its parts, since whoever asks needs no text.
+#[tactic(auto, using(crate::proofs::Lines::fill_few))]
+fn length_of(s: WellFormed) -> usize
+    ensures { result ≡ length (sheet_of s.entry.state.now) }
+{
+    let mut count: Text<20> = Text::new();
+    count.decimal(s.state.count.0);
+    17 + count.len() + 7 + 8 * compress::used(s.state.width) + 6 + 2 * s.state.fill + 1
+}
+
 // How long the sheet of s is; 0 where s isn't well formed, and no Result: this call was never refused.
 pub fn sheet_length(s: State) -> usize
     ensures { result ≡ length_of s }
 {
     match WellFormed::try_from(&s) {
-        Ok(s) => sheet_text(s).len(),
+        Ok(s) => length_of(s),
         Err(_) => 0,
     }
 }
@@ -44,10 +54,9 @@ pub fn write(s: State, out: &mut [u8]) -> Result<(), Refusal>
     ensures { (told result ≡ answer_of s (write_number s (length out.old))) × (out.new ≡ write_bytes s out.old) }
 {
     let s = WellFormed::try_from(&s)?;
-    let sheet = sheet_text(s);
-    if out.len() != sheet.len() {
+    if out.len() != length_of(s) {
         return Err(Refusal::OutputLength);
     }
-    out.copy_from_slice(sheet.as_bytes());
+    out.copy_from_slice(sheet_text(s).as_bytes());
     Ok(())
 }

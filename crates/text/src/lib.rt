@@ -1,13 +1,14 @@
 // Text in fixed memory.
 #![tactic(auto)]
 
-ghost use Rattle.std.specs.Prelude.{◌≡◌, ◌≤◌, ◌<◌, List, ℕ, [], ◌∷◌, ◌++◌, length, take, drop};
+ghost use Rattle.std.specs.Prelude.{◌≡◌, ◌-◌, ◌*◌, ◌≤◌, ◌<◌, ◌++◌, List, ℕ, [], length, take, drop, replicate};
 ghost use Rattle.text.specs.Text.{decimal_of, hex_digit, hex_of, appended};
+ghost use Rattle.text.specs.Room.{told, long_text};
 
 use std::marker::Model;
 
 /// A text of at most N bytes, in fixed memory.
-#[derive(Drop)]
+#[derive(Clone, Copy)]
 pub struct Text<const N: usize> {
     bytes: [u8; N],
     len: usize,
@@ -19,7 +20,12 @@ impl<const N: usize> Model for Text<N> {
 
     ghost view = { λ t. take t.len t.bytes };
 
-    ghost invariant = { λ t. t.len ≤ N };
+    // Behind the text stand zeros, so that it tells its bytes and can be copied.
+    ghost invariant = { λ t. (t.len ≤ N) × (length t.bytes ≡ N) × (drop t.len t.bytes ≡ replicate (N - t.len) 0) };
+
+    ghost inverse = { λ l. record { bytes = l ++ replicate (N - length l) 0; len = length l } };
+
+    ghost inverse_ok = { λ t h i. record { bytes = told N t.len t.bytes h.0 h.1 h.2 i; len = long_text N t.len t.bytes h.0 h.1 h.2 i } };
 }
 
 // What doesn't fit is not written, no part of it.
@@ -82,18 +88,21 @@ impl<const N: usize> Text<N> {
         if (N - self.len) / 2 < bytes.len() {
             return;
         }
-        for b in bytes {
-            self.push(hex_digit(b / 16));
-            self.push(hex_digit(b % 16));
-        }
+        let end = self.len + 2 * bytes.len();
+        let room = &mut self.bytes[..];
+        put_hex(&mut room[self.len..end], bytes);
+        self.len = end;
     }
+}
 
-    fn push(&mut self, b: u8)
-        requires { length self.old < N }
-        ensures { self.new ≡ self.old ++ b ∷ [] }
-    {
-        self.bytes[self.len] = b;
-        self.len += 1;
+// The bytes in hex, into room for them. Not through the text: each digit would wait for the length that the one before it left.
+fn put_hex(room: &mut [u8], bytes: &[u8])
+    requires { length room.old ≡ 2 * length bytes.now }
+    ensures { room.new ≡ hex_of bytes.now }
+{
+    for (i, b) in bytes.iter().enumerate() {
+        room[2 * i] = hex_digit(b / 16);
+        room[2 * i + 1] = hex_digit(b % 16);
     }
 }
 

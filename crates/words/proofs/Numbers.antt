@@ -24,11 +24,11 @@ length_words zero l = refl
 length_words (suc n) l = ap suc (length_words n (drop 4 l))
 
 -- ---- one byte more, for `put` and `get`
-pub byte_more : (out : List ℕ) (x i rest : ℕ) → i < length out → ((n : ℕ) → bytes_of (i + n) x ≡ take i out ++ bytes_of n rest)
-    → (n : ℕ) → bytes_of (i + 1 + n) x ≡ take (i + 1) (set out i (rest % 256)) ++ bytes_of n (rest / 256)
-byte_more out x i rest h p n =
+pub byte_more : (out : List ℕ) (x i k rest : ℕ) → i < length out → k ≡ i → ((n : ℕ) → bytes_of (i + n) x ≡ take i out ++ bytes_of n rest)
+    → (n : ℕ) → bytes_of (i + 1 + n) x ≡ take (i + 1) (set out k (rest % 256)) ++ bytes_of n (rest / 256)
+byte_more out x i k rest h here p n =
     let e : i + 1 + n ≡ i + suc n = omega arith in
-    rw (e, p (suc n), add-one, take-suc-set out i (rest % 256) h, append_assoc)
+    rw (here, e, p (suc n), add-one, take-suc-set out i (rest % 256) h, append_assoc)
 
 pub number_step : (l : List ℕ) (j x : ℕ) → j < length l → x ≡ number_of (drop (suc j) l) → x * 256 + get_or l j 0 ≡ number_of (drop j l)
 number_step l j x h e = rw (drop-cons l j 0 h) (omega arith)

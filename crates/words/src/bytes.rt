@@ -2,7 +2,7 @@
 ghost use Rattle.std.specs.Prelude.{◌≡◌, ◌-◌, ◌*◌, ◌^◌, ◌<◌, ◌≤◌, ◌++◌, length, drop, replicate};
 ghost use Rattle.words.specs.Bytes.{bytes_of, number_of, word_bytes, words_of};
 
-// The number that the bytes s are. Not by from_le_bytes: the base stands in the code for the edits bytes_in_base_255 and high_byte_first.
+// The number that the bytes s are. Not by from_le_bytes: the base stands in the code for the edit bytes_in_base_255.
 pub fn get(s: &[u8]) -> u64
     requires { length s.now ≤ 8 }
     ensures { (result ≡ number_of s.now) × (result < 256 ^ length s.now) }
@@ -26,13 +26,13 @@ pub fn get_words<const N: usize>(s: &[u8], n: usize) -> [u32; N]
     x
 }
 
-// The low bytes of x, as many as out holds; the base stands in the code as in `get`.
+// The low bytes of x, as many as out holds; the base stands in the code as in `get`, and the place for the edit high_byte_first.
 pub fn put(out: &mut [u8], x: u64)
     ensures { out.new ≡ bytes_of (length out.old) x }
 {
     let mut rest = x;
-    for b in out.iter_mut() {
-        *b = (rest % 256) as u8;
+    for j in 0..out.len() {
+        out[j] = (rest % 256) as u8;
         rest = rest / 256;
     }
 }

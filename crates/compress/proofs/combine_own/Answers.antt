@@ -7,10 +7,12 @@ use Rattle.tables.proofs.Rounds.{at_most_five}
 use Rattle.compress.proofs.Words.{sums_more, sums_all}
 use Rattle.compress.proofs.combine_own.Goals as goal
 
+-- which word the right line's register is added to is proved by omega
 pub loop-i-preserved : goal.loop-i-preserved
 loop-i-preserved c =
     let p = c.args.p in
-    sums_more c.count-n.result c.args.h p.left p.right c.loop-i.new c.loop-i.i (omega arith) (omega (arith, at_most_five c.args.z)) c.loop-i.invariant
+    let five = at_most_five c.args.z in
+    sums_more c.count-n.result c.args.h p.left p.right c.loop-i.new c.loop-i.i _ (omega arith) (omega arith) (omega arith) c.loop-i.invariant
 
 pub returns : goal.returns
 returns c =

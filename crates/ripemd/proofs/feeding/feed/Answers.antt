@@ -1,13 +1,16 @@
-use Rattle.std.proofs.Common.{arith, ap, sym, ◌∙◌}
+use Rattle.std.proofs.Common.{arith, ap, sym, ◌∙◌, Err}
+use Rattle.ripemd.specs.Answers.{fed}
 use Rattle.ripemd.specs.Feed.{fed_state}
 use Rattle.ripemd.specs.State.{taken_of, fault_of}
 use Rattle.ripemd.specs.declared.State.{State}
+use Rattle.ripemd.specs.declared.refusals.Refusal.{Refusal}
 use Rattle.ripemd.proofs.Answered.{feed_faulty, feed_over, feed_done}
 use Rattle.ripemd.proofs.Well.{well}
 use Rattle.ripemd.proofs.feeding.feed.Goals as goal
 
 pub returns-in-Err : goal.returns-in-Err
-returns-in-Err c = rw c.into.ensures (feed_faulty c.args.s _ c.in-Err.ensures c.args.piece.now)
+returns-in-Err c =
+    ap (λ (r : Refusal). fed (Err record { refusal = r; state = c.args.s })) c.into.ensures ∙ feed_faulty c.args.s _ c.in-Err.ensures c.args.piece.now
 
 pub too_long-requires : goal.too_long-requires
 too_long-requires c =

@@ -1,4 +1,4 @@
-use Rattle.std.proofs.Common.{ap, sym, ◌∙◌, List, ℕ, length}
+use Rattle.std.proofs.Common.{ap, sym, ◌∙◌, length}
 use Rattle.ripemd.specs.Answers.{Answer}
 use Rattle.ripemd.specs.State.{fault_of}
 use Rattle.ripemd.specs.declared.State.{State}
@@ -11,7 +11,7 @@ use Rattle.sheet.proofs.writing.sheet_length.Goals as goal
 pub returns-in-Ok : goal.returns-in-Ok
 returns-in-Ok c =
     let e = c.in-Ok.ensures in
-    c.len.ensures.0 ∙ ap (λ (l : List ℕ). length l) c.sheet_text.ensures ∙ ap (λ (s : State). length (sheet_of s)) e
+    c.length_of.ensures ∙ ap (λ (s : State). length (sheet_of s)) e
     ∙ sym (length_is c.args.s (ap fault_of (sym e) ∙ c.in-Ok.s.sound))
 
 pub returns-in-Err : goal.returns-in-Err

@@ -4,5 +4,5 @@ use Rattle.std.proofs.Common.{◌≡◌, ℕ, ◌+◌, ◌++◌, take}
 use Rattle.words.specs.Bytes.{bytes_of}
 use Rattle.words.proofs.bytes.put.Given as goal
 
-abbrev pub invariant-loop-b : goal.invariant-loop-b
-invariant-loop-b l = (n : ℕ) → bytes_of (l.b-index + n) l.x ≡ take l.b-index l.out ++ bytes_of n l.rest
+abbrev pub invariant-loop-j : goal.invariant-loop-j
+invariant-loop-j l = (n : ℕ) → bytes_of (l.j + n) l.x ≡ take l.j l.out ++ bytes_of n l.rest
